@@ -1,0 +1,4 @@
+pub mod Limits
+pub mod Terms
+pub mod Maps
+pub mod LookUp

@@ -1,0 +1,15 @@
+// The words of theory text.
+mod faults;
+mod reader;
+mod scan;
+mod word;
+
+pub use faults::WordFault;
+pub use faults::WordFaultDebug;
+pub use faults::WordFaultPartialEq;
+pub use faults::WordRefusal;
+pub use faults::WordRefusalDebug;
+pub use faults::WordRefusalPartialEq;
+pub use reader::WordReader;
+pub use word::Placed;
+pub use word::Word;

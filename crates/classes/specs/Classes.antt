@@ -32,3 +32,20 @@ printed b =
 
 abbrev pub class-of : ℕ → ByteClass
 class-of b = cond (blank b) Blank (cond (control b) Bad (printed b))
+
+-- the byte of each mark
+abbrev pub mark-byte : Mark → ℕ
+mark-byte Less = 60
+mark-byte Greater = 62
+mark-byte Colon = 58
+mark-byte Equals = 61
+mark-byte Stop = 46
+mark-byte Quote = 34
+mark-byte Tick = 39
+mark-byte Percent = 37
+mark-byte Open = 40
+mark-byte Close = 41
+mark-byte Hash = 35
+mark-byte Dollar = 36
+mark-byte LeftBrace = 123
+mark-byte RightBrace = 125

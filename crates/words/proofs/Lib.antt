@@ -1,1 +1,4 @@
 pub mod Scanning
+pub mod Law
+pub mod Exact
+pub mod Counting

@@ -20,11 +20,16 @@ use Rattle.words.specs.declared.faults.WordFault.{WordFault}
 use Rattle.words.specs.declared.faults.WordRefusal.{WordRefusal}
 use Rattle.words.specs.declared.faults.WordRefusal.the-variants.{BadByte, OpenQuote, NameLength}
 
--- What a word is. A stray mark, # $ { } or a single =, stands in no theory.
+-- The words that are no names. A stray mark, # $ { } or a single =, stands in no theory.
+pub data Sign : Type 0 where
+  less greater colon equals stop quote open-paren close-paren stray : Sign
+
+-- what a word is
 pub data Token : Type 0 where
-  less greater colon equals stop quote open-paren close-paren stray text-end : Token
+  sign : Sign → Token
   node : List ℕ → Token
   atom : List ℕ → Token
+  text-end : Token
 
 -- What is read: a word, with the place where it stands and the place behind it; or a fault at a place.
 pub data Reading : Type 0 where
@@ -41,14 +46,14 @@ number NameLength = 3
 abbrev pub name-limit : ℕ
 name-limit = 32
 
-abbrev is-blank : ByteClass → Bool
+abbrev pub is-blank : ByteClass → Bool
 is-blank class.Blank = true
 is-blank class.Bad = false
 is-blank (class.Mark m) = false
 is-blank class.Capital = false
 is-blank class.Plain = false
 
-abbrev is-name : ByteClass → Bool
+abbrev pub is-name : ByteClass → Bool
 is-name class.Blank = false
 is-name class.Bad = false
 is-name (class.Mark m) = false
@@ -79,20 +84,20 @@ quoted f s bs n =
 
 -- the word that begins with a mark at s, bs being the text behind it
 abbrev pub marked : ℕ → Mark → List ℕ → Reading
-marked s mark.Less bs = read s less (s + 1)
-marked s mark.Greater bs = read s greater (s + 1)
-marked s mark.Colon bs = read s colon (s + 1)
-marked s mark.Equals bs = cond (eqb (getD bs 0 0) 61) (read s equals (s + 2)) (read s stray (s + 1))
-marked s mark.Stop bs = read s stop (s + 1)
-marked s mark.Quote bs = read s quote (s + 1)
+marked s mark.Less bs = read s (sign less) (s + 1)
+marked s mark.Greater bs = read s (sign greater) (s + 1)
+marked s mark.Colon bs = read s (sign colon) (s + 1)
+marked s mark.Equals bs = cond (eqb (getD bs 0 0) 61) (read s (sign equals) (s + 2)) (read s (sign stray) (s + 1))
+marked s mark.Stop bs = read s (sign stop) (s + 1)
+marked s mark.Quote bs = read s (sign quote) (s + 1)
 marked s mark.Tick bs = quoted atom s bs (leading (of-name true) bs)
-marked s mark.Percent bs = read s stray (s + 1)
-marked s mark.Open bs = read s open-paren (s + 1)
-marked s mark.Close bs = read s close-paren (s + 1)
-marked s mark.Hash bs = read s stray (s + 1)
-marked s mark.Dollar bs = read s stray (s + 1)
-marked s mark.LeftBrace bs = read s stray (s + 1)
-marked s mark.RightBrace bs = read s stray (s + 1)
+marked s mark.Percent bs = read s (sign stray) (s + 1)
+marked s mark.Open bs = read s (sign open-paren) (s + 1)
+marked s mark.Close bs = read s (sign close-paren) (s + 1)
+marked s mark.Hash bs = read s (sign stray) (s + 1)
+marked s mark.Dollar bs = read s (sign stray) (s + 1)
+marked s mark.LeftBrace bs = read s (sign stray) (s + 1)
+marked s mark.RightBrace bs = read s (sign stray) (s + 1)
 
 abbrev pub starting : ℕ → ByteClass → ℕ → List ℕ → Reading
 starting s class.Blank b bs = refused BadByte s
@@ -117,17 +122,17 @@ place-after (refused r s) at = at
 
 -- The answers of the code as readings.
 abbrev pub token : Word → Token
-token word.Less = less
-token word.Greater = greater
-token word.Colon = colon
-token word.Equals = equals
-token word.Stop = stop
-token word.Quote = quote
-token word.Open = open-paren
-token word.Close = close-paren
+token word.Less = sign less
+token word.Greater = sign greater
+token word.Colon = sign colon
+token word.Equals = sign equals
+token word.Stop = sign stop
+token word.Quote = sign quote
+token word.Open = sign open-paren
+token word.Close = sign close-paren
 token (word.Node x) = node (x .now)
 token (word.Atom x) = atom (x .now)
-token word.Stray = stray
+token word.Stray = sign stray
 token word.End = text-end
 
 abbrev pub named-by : (List ℕ → Token) → ℕ → Result (RefT (List ℕ) × ℕ) WordRefusal → Reading

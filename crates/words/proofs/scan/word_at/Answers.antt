@@ -34,7 +34,9 @@ returns-in-Break-name c =
 pub returns-in-Continue-name : need.returns-in-Continue-name
 returns-in-Continue-name c =
     let h : c .args .place < length (c .args .text .now) = omega arith in
-    record { value = c .in-Continue-name .ensures tt .value node ∙ sym (at-capital _ _ h (c .in-Capital .ensures tt)); within = search needs }
+    let named = c .in-Continue-name .ensures tt .value node in
+    let here = at-capital _ _ h (c .in-Capital .ensures tt) in
+    record { value = cc; within = search needs }
 
 pub returns-in-Continue-name-2 : need.returns-in-Continue-name-2
 returns-in-Continue-name-2 c =

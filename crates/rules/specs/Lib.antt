@@ -5,6 +5,7 @@ pub mod Outcomes
 pub mod Evaluation
 pub mod Shown
 pub mod Theorems
+pub mod Theories
 pub mod Worked
 pub mod QuestionTable
 pub mod Boundaries

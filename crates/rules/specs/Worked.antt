@@ -1,178 +1,147 @@
 -- The worked theory, and what its questions come to.
 use mathlib.Core.Path.{_≡_}
-use mathlib.Core.List.{List, [], _∷_, map}
-use mathlib.Core.Bool.{Bool, true, false, _&&_}
-use Prim.Native.Nat.{ℕ}
-use lib.Dec.{eqb}
-use Rattle.std.specs.declared.option.Option.{Option}
-use Rattle.std.specs.declared.option.Option.the-variants.{Some, None}
+use mathlib.Core.List.{List, [], _∷_}
 use Rattle.terms.specs.declared.items.Node.{Node}
 use Rattle.terms.specs.declared.items.Atom.{Atom}
-use Rattle.terms.specs.declared.items.Quoting.{Quoting}
-use Rattle.terms.specs.declared.items.Quoting.the-variants.{Plain, Quoted}
 use Rattle.terms.specs.Terms.{Terms}
-use Rattle.terms.specs.Maps.{Map, same-atoms}
 use Rattle.rules.specs.Questions.{own}
-use Rattle.rules.specs.Outcomes.{Stop, Outcome, value, stopped}
+use Rattle.rules.specs.Outcomes.{Stop, value, stopped}
 use Rattle.rules.specs.Evaluation.{outcome}
-use Rattle.rules.specs.Shown.{shown, unfinished, shows}
+use Rattle.rules.specs.Shown.{shown, reported, unfinished, shows}
+use Rattle.rules.specs.Theories.{node, atom, Sentence, says, map-of, end, word, inherits, pair, local, quoted, quoted-pair, global, Row, row, Comes-to}
 
-pub record Sentence : Type 0 where
-  pub node : Node
-  pub left : List Atom
-  pub right : Terms
+abbrev pub Word : Node
+Word = node 0
 
-abbrev pub map-of : List Sentence → Map
-map-of [] n p = None
-map-of (s ∷ more) n p =
-    elim (eqb (s .node .0) (n .0) && same-atoms (s .left) p) [ true ↦ Some (s .right) | false ↦ map-of more n p ]
+abbrev pub Lamp : Node
+Lamp = node 1
 
-abbrev N : ℕ → Node
-N n = record { 0 = n }
+abbrev pub Child : Node
+Child = node 2
 
-abbrev A : ℕ → Atom
-A n = record { 0 = n }
+abbrev pub Echo : Node
+Echo = node 3
 
-abbrev Word : Node
-Word = N 0
+abbrev pub Twice : Node
+Twice = node 4
 
-abbrev Lamp : Node
-Lamp = N 1
+abbrev pub Loop : Node
+Loop = node 5
 
-abbrev Child : Node
-Child = N 2
+abbrev pub Grow : Node
+Grow = node 6
 
-abbrev Echo : Node
-Echo = N 3
+abbrev pub Relay : Node
+Relay = node 7
 
-abbrev Twice : Node
-Twice = N 4
+abbrev pub Here : Node
+Here = node 8
 
-abbrev Loop : Node
-Loop = N 5
+abbrev pub There : Node
+There = node 9
 
-abbrev Grow : Node
-Grow = N 6
+abbrev pub class : Atom
+class = atom 0
 
-abbrev Relay : Node
-Relay = N 7
+abbrev pub noun : Atom
+noun = atom 1
 
-abbrev Here : Node
-Here = N 8
+abbrev pub many : Atom
+many = atom 2
 
-abbrev There : Node
-There = N 9
+abbrev pub stem : Atom
+stem = atom 3
 
-abbrev class : Atom
-class = A 0
+abbrev pub ending : Atom
+ending = atom 4
 
-abbrev noun : Atom
-noun = A 1
+abbrev pub one : Atom
+one = atom 5
 
-abbrev many : Atom
-many = A 2
+abbrev pub en : Atom
+en = atom 6
 
-abbrev stem : Atom
-stem = A 3
+abbrev pub lamp : Atom
+lamp = atom 7
 
-abbrev ending : Atom
-ending = A 4
+abbrev pub kind : Atom
+kind = atom 8
 
-abbrev one : Atom
-one = A 5
+abbrev pub er : Atom
+er = atom 9
 
-abbrev en : Atom
-en = A 6
+abbrev pub old : Atom
+old = atom 10
 
-abbrev lamp : Atom
-lamp = A 7
+abbrev pub a : Atom
+a = atom 11
 
-abbrev kind : Atom
-kind = A 8
+abbrev pub b : Atom
+b = atom 12
 
-abbrev er : Atom
-er = A 9
+abbrev pub x : Atom
+x = atom 13
 
-abbrev old : Atom
-old = A 10
+abbrev pub t : Atom
+t = atom 14
 
-abbrev a : Atom
-a = A 11
+abbrev pub s : Atom
+s = atom 15
 
-abbrev b : Atom
-b = A 12
+abbrev pub u : Atom
+u = atom 16
 
-abbrev x : Atom
-x = A 13
+abbrev pub done : Atom
+done = atom 17
 
-abbrev t : Atom
-t = A 14
+abbrev pub c : Atom
+c = atom 18
 
-abbrev s : Atom
-s = A 15
+abbrev pub q : Atom
+q = atom 19
 
-abbrev u : Atom
-u = A 16
-
-abbrev done : Atom
-done = A 17
-
-abbrev c : Atom
-c = A 18
-
-abbrev q : Atom
-q = A 19
-
-abbrev says : Node → List Atom → Terms → Sentence
-says n l r = record { node = n; left = l; right = r }
-
-abbrev end : Terms
-end = Terms.done
-
--- <l>
-abbrev <_> : Atom → Terms → Terms
-<_> l rest = Terms.path Plain None (Terms.atom l end) rest
-
--- "<l>"
-abbrev quoted : Atom → Terms → Terms
-quoted l rest = Terms.path Quoted None (Terms.atom l end) rest
-
+-- Word: <class> == noun <many> == "<stem>" <ending>
+--   <one> == "<stem>" <ending> == en.
+-- Lamp: <> == Word <stem> == lamp.
+-- Child: <> == Word <stem> == kind <ending> == er
+--   <many old> == "Lamp".
+-- Echo: <> == <a> == a <> <b> == b <>.
+-- Twice: <> == "Echo".
+-- Loop: <> == Loop.
+-- Grow: <> == <x>.
+-- Relay: <> == "<t>".
+-- Here: <s> == Relay:<> <t> == "There:<u>".
+-- There: <u> == Relay:<> <t> == done.
 abbrev pub worked : List Sentence
 worked =
-    says Word (class ∷ []) (Terms.atom noun end)
-    ∷ says Word (many ∷ []) (quoted stem (<_> ending end))
-    ∷ says Word (one ∷ []) (quoted stem end)
-    ∷ says Word (ending ∷ []) (Terms.atom en end)
-    ∷ says Lamp [] (Terms.node Plain Word end)
-    ∷ says Lamp (stem ∷ []) (Terms.atom lamp end)
-    ∷ says Child [] (Terms.node Plain Word end)
-    ∷ says Child (stem ∷ []) (Terms.atom kind end)
-    ∷ says Child (ending ∷ []) (Terms.atom er end)
-    ∷ says Child (many ∷ old ∷ []) (Terms.node Quoted Lamp end)
+    says Word (class ∷ []) (word noun)
+    ∷ says Word (many ∷ []) (global (word stem) (local (word ending) end))
+    ∷ says Word (one ∷ []) (global (word stem) end)
+    ∷ says Word (ending ∷ []) (word en)
+    ∷ says Lamp [] (inherits Word end)
+    ∷ says Lamp (stem ∷ []) (word lamp)
+    ∷ says Child [] (inherits Word end)
+    ∷ says Child (stem ∷ []) (word kind)
+    ∷ says Child (ending ∷ []) (word er)
+    ∷ says Child (many ∷ old ∷ []) (quoted Lamp end)
     ∷ says Echo [] end
-    ∷ says Echo (a ∷ []) (Terms.atom a (Terms.path Plain None end end))
-    ∷ says Echo (b ∷ []) (Terms.atom b (Terms.path Plain None end end))
-    ∷ says Twice [] (Terms.node Quoted Echo end)
-    ∷ says Loop [] (Terms.node Plain Loop end)
-    ∷ says Grow [] (<_> x end)
-    ∷ says Relay [] (quoted t end)
-    ∷ says Here (s ∷ []) (Terms.path Plain (Some Relay) end end)
-    ∷ says Here (t ∷ []) (Terms.path Quoted (Some There) (Terms.atom u end) end)
-    ∷ says There (u ∷ []) (Terms.path Plain (Some Relay) end end)
-    ∷ says There (t ∷ []) (Terms.atom done end)
+    ∷ says Echo (a ∷ []) (Terms.atom a (local end end))
+    ∷ says Echo (b ∷ []) (Terms.atom b (local end end))
+    ∷ says Twice [] (quoted Echo end)
+    ∷ says Loop [] (inherits Loop end)
+    ∷ says Grow [] (local (word x) end)
+    ∷ says Relay [] (global (word t) end)
+    ∷ says Here (s ∷ []) (pair Relay end end)
+    ∷ says Here (t ∷ []) (quoted-pair There (word u) end)
+    ∷ says There (u ∷ []) (pair Relay end end)
+    ∷ says There (t ∷ []) (word done)
     ∷ []
 
--- A row of the table: a question that is its own context, and what it comes to.
-pub record Row : Type 0 where
-  pub node : Node
-  pub path : List Atom
-  pub comes-to : Outcome
-
-abbrev row : Node → List Atom → Outcome → Row
-row n p r = record { node = n; path = p; comes-to = r }
-
-abbrev pub table : List Row
-table =
+-- Three readings that must not be taken would show here. If the first left path that fits were taken and not the longest, Child:<many>
+-- would lose its stem. If a quoted node asked with the first path alone, without the extension, Twice:<a b> would be a b. If the test
+-- for a circle left out the context, Here:<s> would be circular, since Relay:<> is asked again within another one.
+abbrev pub rows : List Row
+rows =
     row Lamp (many ∷ []) (value (lamp ∷ en ∷ []) 4)
     ∷ row Child (many ∷ []) (value (kind ∷ en ∷ []) 4)
     ∷ row Child (many ∷ old ∷ []) (value (lamp ∷ en ∷ []) 5)
@@ -186,12 +155,12 @@ table =
     ∷ row Here (s ∷ []) (value (done ∷ []) 6)
     ∷ []
 
--- every row is as the definitions have it
-abbrev pub Worked-table : Type 0
-Worked-table = map (λ r. outcome (map-of worked) (own (r .node) (r .path))) table ≡ map (λ r. r .comes-to) table
+-- Lamp:<many> is unfinished after 3 steps, all of which are reported; it has its value after 4, and reports no more.
+pub record Lamp-by-steps : Type 0 where
+  pub unfinished-after-3 : shown (outcome (map-of worked) (own Lamp (many ∷ []))) 3 ≡ unfinished
+  pub reports-3 : reported (outcome (map-of worked) (own Lamp (many ∷ []))) 3 ≡ 3
+  pub shown-after-4 : shown (outcome (map-of worked) (own Lamp (many ∷ []))) 4 ≡ shows (lamp ∷ en ∷ [])
+  pub reports-4 : reported (outcome (map-of worked) (own Lamp (many ∷ []))) 1000 ≡ 4
 
--- Lamp:<many> is unfinished after 3 steps, and has its value after 4.
-abbrev pub Unfinished-then-shown : Type 0
-Unfinished-then-shown =
-    (shown (outcome (map-of worked) (own Lamp (many ∷ []))) 3 ≡ unfinished)
-    × (shown (outcome (map-of worked) (own Lamp (many ∷ []))) 4 ≡ shows (lamp ∷ en ∷ []))
+abbrev pub Worked-theory-comes-to : Type 0
+Worked-theory-comes-to = Comes-to (map-of worked) rows

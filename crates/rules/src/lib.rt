@@ -1,8 +1,8 @@
 // What evaluation means: Keller's rules, the outcome of a question with its steps, and that they agree.
 ghost use Rattle.rules.specs.Theorems.{Most-specific-is-found, Same-question-is-equality, Table-derives-as-Keller, Derivations-agree, Values-are-derived-within-the-limits, Derived-values-are-outcomes, Stops-mean-no-derivation, All-is-shown-by-the-rules};
-ghost use Rattle.rules.specs.Worked.{Worked-table, Unfinished-then-shown};
-ghost use Rattle.rules.specs.QuestionTable.{Question-table};
-ghost use Rattle.rules.specs.Boundaries.{Open-sentences-at-the-limit, Values-at-the-limit, Tests-in-order};
+ghost use Rattle.rules.specs.Worked.{Worked-theory-comes-to, Lamp-by-steps};
+ghost use Rattle.rules.specs.QuestionTable.{Questions-are-as-in-the-table};
+ghost use Rattle.rules.specs.Boundaries.{Open-sentences-end-at-96, Values-end-at-256, Paths-end-at-32, Tests-come-in-order, Terms-are-worked-from-left-to-right};
 
 /// Keller's Def uses the sentence that the look-up finds.
 pub fn most_specific_is_found() -> u8
@@ -60,23 +60,30 @@ pub fn all_is_shown_by_the_rules() -> u8
     0
 }
 
-/// The worked theory's table.
+/// The worked theory's table, and one of its questions by steps.
 pub fn worked_theory_comes_to_its_table() -> u8
-    ensures { λ _. ⌜ Worked-table ⌝ ∗ ⌜ Unfinished-then-shown ⌝ }
+    ensures { λ _. ⌜ Worked-theory-comes-to ⌝ ∗ ⌜ Lamp-by-steps ⌝ }
 {
     0
 }
 
-/// Small theories that tell each row of the table of questions from its neighbours.
-pub fn question_table_is_pinned() -> u8
-    ensures { λ _. ⌜ Question-table ⌝ }
+/// Each term asks the question that its row of the table has: node, path and context are told by the values of a theory.
+pub fn questions_are_as_in_the_table() -> u8
+    ensures { λ _. ⌜ Questions-are-as-in-the-table ⌝ }
 {
     0
 }
 
-/// Outcomes at the limits.
-pub fn limits_are_kept_to_the_last() -> u8
-    ensures { λ _. ⌜ Open-sentences-at-the-limit ⌝ ∗ ⌜ Values-at-the-limit ⌝ ∗ ⌜ Tests-in-order ⌝ }
+/// Where 96 open sentences, 256 atoms of a value and 32 atoms of a path end.
+pub fn limits_end_where_they_say() -> u8
+    ensures { λ _. ⌜ Open-sentences-end-at-96 ⌝ ∗ ⌜ Values-end-at-256 ⌝ ∗ ⌜ Paths-end-at-32 ⌝ }
+{
+    0
+}
+
+/// A new question is tested for path, then circular, then depth, and the first term that stops says why.
+pub fn tests_and_terms_come_in_order() -> u8
+    ensures { λ _. ⌜ Tests-come-in-order ⌝ ∗ ⌜ Terms-are-worked-from-left-to-right ⌝ }
 {
     0
 }

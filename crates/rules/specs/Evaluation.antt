@@ -24,7 +24,7 @@ abbrev pub among : Question → List Question → Bool
 among q [] = false
 among q (r ∷ opened) = same-question q r || among q opened
 
--- why a new question is not asked, when sentences for the questions `opened` are open
+-- The first tests of a new question, while sentences for the questions `opened` are open: for path, then circular.
 unfoldable pub barred : List Question → Question → Option Stop
 barred opened q =
     elim (leb (length (q .path)) path-limit) [
@@ -32,8 +32,8 @@ barred opened q =
       | true ↦ elim (among q opened) [ true ↦ Some Stop.circular | false ↦ None ]
     ]
 
--- Terms, worked at a site from left to right. `ask` gives what a new question comes to. `room` says how many atoms there is
--- still room for, and `full` what it is called when one comes that has none.
+-- Terms, worked at a site from left to right. `ask` gives what a new question comes to. There is room for so many atoms more, of the
+-- value or of the inside of a path, and `full` is how it ends when one comes that has none.
 unfoldable pub work : (Question → ℕ → Stop → Outcome) → Site → Terms → ℕ → Stop → Outcome
 work ask s Terms.done room full = value [] 0
 work ask s (Terms.atom a rest) zero full = stopped full 0
@@ -46,22 +46,24 @@ work ask s (Terms.path q n inside rest) room full =
     (λ u. then (ask (path-asks s q n u) room full)
     (λ v. behind v (work ask s rest (room - length v) full)))
 
+-- a test's stop, which takes no step of its own; otherwise what follows
 abbrev pub unless : Option Stop → (Unit {0} → Outcome) → Outcome
 unless (Some s) f = stopped s 0
 unless None f = f tt
 
--- one step: the look-up, and the work that follows it
+-- one step: the look-up, and all work up to the next question
 abbrev pub step : Look → (ℕ → Terms → Outcome) → Outcome
 step nothing f = stopped Stop.undefined 1
 step (found k t) f = later 1 (f k t)
 
--- A new question, when sentences for the questions `opened` are open, and `left` more may be opened.
+-- What a new question comes to, while sentences for the questions `opened` are open and `left` more may be: the tests, with that for depth
+-- as the last, and then the step.
 unfoldable pub ask : Map → ℕ → List Question → Question → ℕ → Stop → Outcome
 ask M zero opened q room full = unless (barred opened q) (λ _. stopped Stop.depth 0)
 ask M (suc left) opened q room full =
     unless (barred opened q)
     (λ _. step (look-up (M (q .node)) (q .path)) (λ k t. work (ask M left (q ∷ opened)) (site q k) t room full))
 
--- what a first question comes to
+-- what a question comes to that is asked first
 unfoldable pub outcome : Map → Question → Outcome
 outcome M q = ask M open-limit [] q value-limit Stop.length

@@ -1,4 +1,6 @@
--- Keller's evaluation rules for DATR, literally: Val, Def, Seq, Sub, Quo and Ext, one constructor each.
+-- Keller's evaluation rules for DATR, literally, one constructor each: Val, Def, Seq, Sub₁₋₃, Quo₁₋₃ and Ext. As with him N is a node, α, β
+-- and γ are sequences of atoms, φ and ψ sequences of descriptors, and C is a context. What follows the rules is ours: the limits, and how
+-- a right side is written out in descriptors.
 use mathlib.Core.Path.{_≡_}
 use mathlib.Core.List.{List, [], _∷_, _++_}
 use Prim.Native.Nat.{ℕ, suc, _+_, _≤_, max}
@@ -56,16 +58,20 @@ pub record Most-specific (T : Theory) (N : Node) (α γ : List Atom) (φ : Descs
 abbrev pub context : Node → List Atom → Context
 context N α = record { node = N; path = α }
 
--- T ∣ C ⊢ φ ⇒₍ γ ₎ β: in the context C, with the path extension γ, φ evaluates to β.
+-- T ∣ C ⊢ φ ⇒₍ γ ₎ β: in the context C, with the path extension γ, φ evaluates to β. The rules have premises above and the conclusion last.
 pub data _∣_⊢_⇒₍_₎_ (T : Theory) : Context → Descs → List Atom → List Atom → Type 0 where
+  -- values: atoms evaluate to themselves
   Val : {C : Context} {γ α : List Atom}
       → T ∣ C ⊢ val α ⇒₍ γ ₎ α
+  -- definitions: a question evaluates to what its most specific sentence gives, with the rest of its path as the extension
   Def : {C : Context} {N : Node} {α γ β : List Atom} {φ : Descs} → Most-specific T N α γ φ
       → T ∣ C ⊢ φ ⇒₍ γ ₎ β
       → T ∣ C ⊢ N :⟨ val (α ++ γ) ⟩ ▸ ε ⇒₍ [] ₎ β
+  -- sequences
   Seq : {C : Context} {γ α β : List Atom} {φ ψ : Descs}
       → T ∣ C ⊢ φ ⇒₍ γ ₎ α → T ∣ C ⊢ ψ ⇒₍ γ ₎ β
       → T ∣ C ⊢ φ ⧺ ψ ⇒₍ γ ₎ α ++ β
+  -- evaluable paths: the inside of a path is evaluated first
   Sub₁ : {C : Context} {N : Node} {γ α β : List Atom} {φ : Descs}
       → T ∣ C ⊢ φ ⇒₍ γ ₎ α → T ∣ C ⊢ N :⟨ val α ⟩ ▸ ε ⇒₍ γ ₎ β
       → T ∣ C ⊢ N :⟨ φ ⟩ ▸ ε ⇒₍ γ ₎ β
@@ -75,6 +81,7 @@ pub data _∣_⊢_⇒₍_₎_ (T : Theory) : Context → Descs → List Atom →
   Sub₃ : {C : Context} {γ α β : List Atom} {φ : Descs}
       → T ∣ C ⊢ φ ⇒₍ γ ₎ α → T ∣ C ⊢ “⟨ val α ⟩” ▸ ε ⇒₍ γ ₎ β
       → T ∣ C ⊢ “⟨ φ ⟩” ▸ ε ⇒₍ γ ₎ β
+  -- quoted descriptors: what the context has is filled in, and the question becomes the context
   Quo₁ : {C : Context} {N : Node} {γ β : List Atom} (α : List Atom)
       → T ∣ context N (α ++ γ) ⊢ N :⟨ val α ⟩ ▸ ε ⇒₍ γ ₎ β
       → T ∣ C ⊢ “ N :⟨ val α ⟩” ▸ ε ⇒₍ γ ₎ β
@@ -84,11 +91,12 @@ pub data _∣_⊢_⇒₍_₎_ (T : Theory) : Context → Descs → List Atom →
   Quo₃ : {N N′ : Node} {γ β : List Atom} (α : List Atom)
       → T ∣ context N (α ++ γ) ⊢ N :⟨ val α ⟩ ▸ ε ⇒₍ γ ₎ β
       → T ∣ context N′ α ⊢ “ N ” ▸ ε ⇒₍ γ ₎ β
+  -- path extensions
   Ext : {C : Context} {N : Node} {γ β : List Atom} (α : List Atom)
       → T ∣ C ⊢ N :⟨ val (α ++ γ) ⟩ ▸ ε ⇒₍ [] ₎ β
       → T ∣ C ⊢ N :⟨ val α ⟩ ▸ ε ⇒₍ γ ₎ β
 
--- how often a derivation uses Def
+-- How often a derivation uses Def. One use of Def is one use of a sentence.
 abbrev pub def-uses : {T : Theory} {C : Context} {φ : Descs} {γ β : List Atom} → T ∣ C ⊢ φ ⇒₍ γ ₎ β → ℕ
 def-uses Val = 0
 def-uses (Def l d) = suc (def-uses d)
@@ -114,7 +122,8 @@ def-depth (Quo₂ α d) = def-depth d
 def-depth (Quo₃ α d) = def-depth d
 def-depth (Ext α d) = def-depth d
 
--- No question and no inside of a path has more atoms than a path may have. A question is what Def is used on; the inside of a path is what a Sub evaluates.
+-- No question and no inside of a path has more atoms than a path may have. A question is what Def is used on; the inside of a path is
+-- what a Sub evaluates first.
 abbrev pub Slim : {T : Theory} {C : Context} {φ : Descs} {γ β : List Atom} → T ∣ C ⊢ φ ⇒₍ γ ₎ β → Type 0
 Slim Val = Unit {0}
 Slim (Def {α = α} {γ = γ} l d) = (length (α ++ γ) ≤ path-limit) × Slim d
@@ -127,14 +136,14 @@ Slim (Quo₂ α d) = Slim d
 Slim (Quo₃ α d) = Slim d
 Slim (Ext α d) = Slim d
 
--- the limits that a derivation keeps
+-- a derivation that keeps the limits
 pub record Within {T : Theory} {C : Context} {φ : Descs} {γ β : List Atom} (d : T ∣ C ⊢ φ ⇒₍ γ ₎ β) : Type 0 where
   pub slim : Slim d
   pub branches : def-depth d ≤ open-limit
   pub short : length β ≤ value-limit
 
--- The terms of a right side as descriptors, within their sentence N:<α> == ..: an unquoted node N′ is short for N′:<α>,
--- and an unquoted path <φ> for N:<φ>.
+-- The terms of a right side as descriptors, in the sentence N:<α> == ..: an unquoted node N′ is short for N′:<α>, and an unquoted
+-- path <φ> for N:<φ>.
 abbrev pub written-out : Node → List Atom → Terms → Descs
 written-out N α Terms.done = ε
 written-out N α (Terms.atom a rest) = atom a ▸ written-out N α rest

@@ -3,6 +3,9 @@ use mathlib.Core.List.{List, _++_}
 use Prim.Native.Nat.{ℕ, _+_}
 use Rattle.terms.specs.declared.items.Atom.{Atom}
 
+-- Why a question comes to no value: its look-up, or one below it, finds nothing (undefined); a new question or the inside of a path has too
+-- many atoms (path); a new question equals that of an open sentence (circular), or comes while too many are open (depth); the value gets
+-- too many atoms (length).
 pub data Stop : Type 0 where
   undefined path circular depth length : Stop
 

@@ -1,4 +1,5 @@
--- The table of the questions that each term asks, and the derivations that go by it: an inner device, which derives what Keller's rules do.
+-- The table of the questions that each term asks, and the derivations that go by it. It is an inner device: it derives what Keller's
+-- rules derive, in the same uses of Def.
 use mathlib.Core.List.{List, [], _∷_, _++_}
 use Prim.Native.Nat.{ℕ, suc, _+_, _≤_, max}
 use lib.ListN.{length, drop}
@@ -13,7 +14,7 @@ use Rattle.terms.specs.Terms.{Terms}
 use Rattle.terms.specs.Maps.{Map, Longest}
 use Rattle.rules.specs.Questions.{Question, own, same}
 
--- Where a right side is worked: at its question, with the extension that its left path leaves.
+-- Where a right side is worked: at its question, with the extension that its left path, of k atoms, leaves.
 pub record Site : Type 0 where
   pub at : Question
   pub extension : List Atom
@@ -21,18 +22,25 @@ pub record Site : Type 0 where
 abbrev pub site : Question → ℕ → Site
 site q k = record { at = q; extension = drop k (q .path) }
 
--- the question that a node asks, and the one that a path asks whose inside has the value v
+-- The questions that terms ask, at a site for N:<p> in the context G:<P> with the extension e:
+--   N′       asks N′:<p>    in the same context
+--   "N′"     asks N′:<P e>  as its own context
 abbrev pub node-asks : Site → Quoting → Node → Question
 node-asks s Plain n = same (s .at .context) n (s .at .path)
 node-asks s Quoted n = own n (s .at .context .path ++ s .extension)
 
+-- and where T has the value v:
+--   N′:<T>   asks N′:<v e>  in the same context
+--   <T>      asks N:<v e>   in the same context
+--   "N′:<T>" asks N′:<v e>  as its own context
+--   "<T>"    asks G:<v e>   as its own context
 abbrev pub path-asks : Site → Quoting → Option Node → List Atom → Question
 path-asks s Plain (Some n) v = same (s .at .context) n (v ++ s .extension)
 path-asks s Plain None v = same (s .at .context) (s .at .node) (v ++ s .extension)
 path-asks s Quoted (Some n) v = own n (v ++ s .extension)
 path-asks s Quoted None v = own (s .at .context .node) (v ++ s .extension)
 
--- Derivations. `Answers M q v`: the question q has the value v. `Works M s t v`: worked at s, the terms t have the value v.
+-- Derivations by the table. `Answers M q v`: the question q has the value v. `Works M s t v`: worked at s, the terms t have the value v.
 mutual
   pub data Answers (M : Map) : Question → List Atom → Type 0 where
     def : {q : Question} {v : List Atom} (k : ℕ) (t : Terms)
@@ -80,7 +88,7 @@ abbrev mutual
   Narrow-in (node d e) = Narrow d × Narrow-in e
   Narrow-in (path {u = u} d e f) = (length u ≤ path-limit) × Narrow-in d × Narrow e × Narrow-in f
 
--- the limits that a derivation keeps
+-- a derivation that keeps the limits
 pub record Fits {M : Map} {q : Question} {v : List Atom} (d : Answers M q v) : Type 0 where
   pub narrow : Narrow d
   pub branches : deepest d ≤ open-limit

@@ -1,8 +1,8 @@
 -- The table of questions and Keller's rules derive the same values, with the same uses of Def.
 use mathlib.Core.Path.{_≡_, refl, sym, ap, subst, subst₃, _∙_}
 use mathlib.Core.List.{List, [], _∷_, _++_, append-nil, append-assoc}
-use mathlib.Core.Logic.{_⊎_, inl, inr, _↔_}
-use Prim.Native.Nat.{ℕ, zero, suc, _+_, _≤_, _<_, max, min}
+use mathlib.Core.Logic.{_⊎_, inl, inr}
+use Prim.Native.Nat.{ℕ, suc, _+_, _≤_, _<_, max}
 use native.Mathlib.Omega.{arith}
 use lib.ListN.{length, take, drop, take-append-drop, length-append}
 use lib.Seq.{length-take-le, take-append-seam, drop-append-seam}
@@ -18,7 +18,7 @@ use Rattle.terms.specs.Terms.{Terms}
 use Rattle.terms.specs.Maps.{Map, Longest}
 use Rattle.terms.specs.LookUp.{found, look-up}
 use Rattle.rules.specs.Questions.{Context, Question, own, same}
-use Rattle.rules.specs.Table.{Site, site, node-asks, path-asks, Answers, Works, def, end, atom, node, path, uses, uses-in, deepest, deepest-in, Narrow, Narrow-in, Fits}
+use Rattle.rules.specs.Table.{Site, site, path-asks, Answers, Works, def, end, atom, node, path, uses, uses-in, deepest, deepest-in, Narrow, Narrow-in, Fits}
 use Rattle.rules.specs.Keller.{Desc, Descs, _:⟨_⟩, “_:⟨_⟩”, “⟨_⟩”, “_”, ε, _▸_, _⧺_, val, Theory, Most-specific, context, _∣_⊢_⇒₍_₎_, Val, Def, Seq, Sub₁, Sub₂, Sub₃, Quo₁, Quo₂, Quo₃, Ext, def-uses, written-out, sentence-of, theory, def-depth, Slim, Within, Derives}
 use Rattle.rules.specs.Theorems.{Most-specific-is-found, Table-derives-as-Keller}
 use Rattle.terms.proofs.LookUp.{look-up-finds-the-longest}

@@ -12,7 +12,7 @@ use Rattle.rules.specs.Questions.{Question}
 use Rattle.rules.specs.Keller.{Derives, Within, def-uses}
 use Rattle.rules.specs.Outcomes.{Stop, Outcome, value, stopped}
 use Rattle.rules.specs.Evaluation.{outcome}
-use Rattle.rules.specs.Shown.{Shown, unfinished, shows, ended, steps, settled, shown}
+use Rattle.rules.specs.Shown.{unfinished, shows, ended, steps, settled}
 use Rattle.rules.specs.Theorems.{Shown-by-the-rules, All-is-shown-by-the-rules}
 use Rattle.rules.proofs.Theorems.{derivations-agree, values-are-derived, derived-values-are-outcomes, stops-mean-no-derivation}
 

@@ -1,24 +1,19 @@
 -- The tests of a new question.
-use mathlib.Core.Path.{_≡_, refl, sym, ap, subst, _∙_}
-use mathlib.Core.List.{List, [], _∷_, _++_}
-use mathlib.Core.Logic.{_⊎_, inl, inr, _↔_}
-use mathlib.Core.Bool.{Bool, true, false, _&&_, _||_}
-use Prim.Native.Nat.{ℕ, zero, suc, _+_, _≤_, _<_}
+use mathlib.Core.Path.{_≡_, refl, subst}
+use mathlib.Core.List.{List, [], _∷_}
+use mathlib.Core.Bool.{Bool, true, false}
+use Prim.Native.Nat.{ℕ, _≤_, _<_}
 use native.Mathlib.Omega.{arith}
 use lib.Dec.{leb, eqb}
-use lib.ListN.{length, take, drop}
+use lib.ListN.{length}
 use Rattle.std.specs.declared.option.Option.{Option}
 use Rattle.std.specs.declared.option.Option.the-variants.{Some, None}
-use Rattle.std.proofs.shelf.Tests.{cases-order, leb-true, leb-false, and-parts, and-from, eqb-true, eq-eqb}
-use Rattle.terms.specs.declared.items.Node.{Node}
+use Rattle.std.proofs.shelf.Tests.{leb-true, leb-false, and-parts, and-from, eqb-true, eq-eqb}
 use Rattle.terms.specs.declared.items.Atom.{Atom}
 use Rattle.terms.specs.Limits.{path-limit}
-use Rattle.terms.specs.Terms.{Terms}
-use Rattle.terms.specs.Maps.{Map, Longest}
 use Rattle.rules.specs.Questions.{Question}
 use Rattle.rules.specs.Outcomes.{Stop}
 use Rattle.rules.specs.Theorems.{Same-question-is-equality}
-use Rattle.terms.specs.LookUp.{Look, found, nothing, here, further, look-up}
 use Rattle.terms.specs.Maps.{same-atoms}
 use Rattle.rules.specs.Evaluation.{same-question, among, barred}
 

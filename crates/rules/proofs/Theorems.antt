@@ -1,13 +1,11 @@
 -- The theorems over Keller's rules, from those over the table of questions.
 use mathlib.Core.Path.{_≡_, refl, sym, _∙_}
 use mathlib.Core.List.{List}
-use Prim.Native.Nat.{ℕ, _<_}
+use Prim.Native.Nat.{_<_}
 use native.Mathlib.Omega.{arith}
 use lib.ListN.{length}
 use Rattle.terms.specs.declared.items.Atom.{Atom}
 use Rattle.terms.specs.Limits.{open-limit}
-use Rattle.terms.specs.Maps.{Map}
-use Rattle.rules.specs.Questions.{Question}
 use Rattle.rules.specs.Keller.{Derives, def-uses, def-depth}
 use Rattle.rules.specs.Outcomes.{Stop, stopped}
 use Rattle.rules.specs.Evaluation.{outcome}

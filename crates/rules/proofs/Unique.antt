@@ -1,17 +1,10 @@
 -- A question has at most one value, and every derivation of it uses Def equally often.
-use mathlib.Core.Path.{_≡_, refl, sym, ap, subst, _∙_}
-use mathlib.Core.List.{List, [], _∷_, _++_}
-use mathlib.Core.Logic.{_⊎_, inl, inr}
-use Prim.Native.Nat.{ℕ, zero, suc, _+_, _≤_, _<_}
-use native.Mathlib.Omega.{arith}
-use lib.ListN.{length, take, drop}
-use Rattle.std.specs.declared.option.Option.{Option}
-use Rattle.std.specs.declared.option.Option.the-variants.{Some, None}
-use Rattle.terms.specs.declared.items.Node.{Node}
+use mathlib.Core.Path.{_≡_, refl, ap, subst, _∙_}
+use mathlib.Core.List.{List, _∷_}
+use Prim.Native.Nat.{ℕ, suc}
 use Rattle.terms.specs.declared.items.Atom.{Atom}
-use Rattle.terms.specs.declared.items.Quoting.{Quoting}
 use Rattle.terms.specs.Terms.{Terms}
-use Rattle.terms.specs.Maps.{Map, Longest}
+use Rattle.terms.specs.Maps.{Map}
 use Rattle.rules.specs.Questions.{Question}
 use Rattle.rules.specs.Table.{Site, site, path-asks, Answers, Works, def, end, atom, node, path, uses, uses-in}
 use Rattle.terms.proofs.LookUp.{one-longest}

@@ -9,7 +9,7 @@ use Rattle.terms.specs.declared.items.Atom.{Atom}
 use Rattle.terms.specs.Terms.{Terms}
 use Rattle.terms.specs.Maps.{Map}
 use Rattle.rules.specs.Outcomes.{Stop, value, stopped}
-use Rattle.rules.specs.Theories.{node, Sentence, says, map-of, end, words, inherits, pair, local, Row, row, Comes-to}
+use Rattle.rules.specs.Theories.{node, Sentence, says, map-of, end, words, inherits, pair, local, row, Comes-to}
 use Rattle.rules.specs.Theories as theories
 
 abbrev a : Atom

@@ -1,5 +1,5 @@
 -- A theory whose values tell the question that was asked: it pins each row of the table of questions.
-use mathlib.Core.List.{List, [], _∷_, _++_, map}
+use mathlib.Core.List.{List, [], _∷_, map}
 use Rattle.terms.specs.declared.items.Node.{Node}
 use Rattle.terms.specs.declared.items.Atom.{Atom}
 use Rattle.terms.specs.Terms.{Terms}

@@ -1,14 +1,12 @@
 -- Balanced items and lists of terms are the same thing.
-use mathlib.Core.Path.{_≡_, refl, sym, ap, subst, _∙_}
-use mathlib.Core.Bool.{Bool, true, false, _&&_}
+use mathlib.Core.Path.{_≡_, refl, sym, ap, _∙_}
+use mathlib.Core.Bool.{true, _&&_}
 use mathlib.Core.List.{List, [], _∷_, _++_, append-assoc}
-use mathlib.Core.Logic.{_↔_}
-use Prim.Native.Nat.{ℕ, zero, suc, _+_, _≤_, _<_, max}
+use Prim.Native.Nat.{ℕ, zero, suc, _+_, _≤_}
 use native.Mathlib.Omega.{arith}
 use lib.Dec.{ltb}
-use lib.ListN.{length}
 use Rattle.std.specs.declared.option.Option.{Option}
-use Rattle.std.proofs.shelf.Tests.{and-parts, and-from, ltb-true, lt-ltb}
+use Rattle.std.proofs.shelf.Tests.{and-parts, ltb-true, lt-ltb}
 use Rattle.terms.specs.declared.items.Node.{Node}
 use Rattle.terms.specs.declared.items.Atom.{Atom}
 use Rattle.terms.specs.declared.items.Quoting.{Quoting}

@@ -14,6 +14,7 @@ use Rattle.terms.specs.declared.items.Atom.{Atom}
 use Rattle.terms.specs.Limits.{path-limit, open-limit, value-limit}
 use Rattle.terms.specs.Terms.{Terms}
 use Rattle.terms.specs.Maps.{Map, Longest}
+use Rattle.terms.proofs.Impossible.{impossible}
 use Rattle.rules.specs.Questions.{Question}
 use Rattle.rules.specs.Table.{Site, site, node-asks, path-asks, Answers, Works, def, end, atom, node, path, uses, uses-in, deepest, deepest-in, Narrow, Narrow-in, Fits}
 use Rattle.rules.specs.Outcomes.{Stop, Outcome, value, stopped, later, behind, then}
@@ -68,7 +69,7 @@ step-right : (W : Stop → Type 0) (v : List Atom) (n : ℕ) (M : Map) (o : Node
 step-right W v n M o p nothing k t g h l r =
     let a = h k (l .within) in
     let b = l .sentence in
-    let z : _≡_ {A = ℕ} 0 1 = cc in absurd (omega arith)
+    impossible (cc)
 step-right W v n M o p (found k′ t′) k t g h l r =
     let e = one-longest l (as-longest M o p k′ t′ h) in
     let P : ℕ → Type 0 = λ j. Right W v n (later 1 (g j t)) in
@@ -86,7 +87,7 @@ over-less M u u′ (q ∷ opened) h o = (λ w d. let k = o .0 w d in omega arith
 
 over-among : (M : Map) (u : ℕ) (q : Question) (opened : List Question) → among q opened ≡ true → Over M u opened
     → (w : List Atom) (d : Answers M q w) → u < uses d
-over-among M u q [] e o w d = let z : _≡_ {A = ℕ} 0 1 = cc in absurd (omega arith)
+over-among M u q [] e o w d = impossible (cc)
 over-among M u q (r ∷ opened) e o w d = go (or-cases (same-question q r) (among q opened) e) (λ x. over-among M u q opened x (o .1) w d)
   where
     go : (same-question q r ≡ true) ⊎ (among q opened ≡ true) → (among q opened ≡ true → u < uses d) → u < uses d

@@ -17,16 +17,18 @@ use Rattle.terms.specs.Limits.{path-limit}
 use Rattle.terms.specs.Terms.{Terms}
 use Rattle.terms.specs.Maps.{Map, Longest}
 use Rattle.terms.specs.LookUp.{found, look-up}
+use Rattle.terms.proofs.Impossible.{impossible}
 use Rattle.rules.specs.Questions.{Context, Question, own, same}
 use Rattle.rules.specs.Table.{Site, site, path-asks, Answers, Works, def, end, atom, node, path, uses, uses-in, deepest, deepest-in, Narrow, Narrow-in, Fits}
-use Rattle.rules.specs.Keller.{Desc, Descs, _:⟨_⟩, “_:⟨_⟩”, “⟨_⟩”, “_”, ε, _▸_, _⧺_, val, Theory, Most-specific, context, _∣_⊢_⇒₍_₎_, Val, Def, Seq, Sub₁, Sub₂, Sub₃, Quo₁, Quo₂, Quo₃, Ext, def-uses, written-out, sentence-of, theory, def-depth, Slim, Within, Derives}
+use Rattle.rules.specs.Keller.{Desc, Descs, _:⟨_⟩, “_:⟨_⟩”, “⟨_⟩”, “_”, ε, _▸_, _⧺_, val, Theory, Most-specific, context, _∣_⊢_⇒₍_₎_}
+use Rattle.rules.specs.Keller.{Val, Def, Seq, Sub₁, Sub₂, Sub₃, Quo₁, Quo₂, Quo₃, Ext, def-uses, written-out, sentence-of, theory, def-depth, Slim, Within, Derives}
 use Rattle.rules.specs.Theorems.{Most-specific-is-found, Table-derives-as-Keller}
 use Rattle.terms.proofs.LookUp.{look-up-finds-the-longest}
 
 -- the longest left path, by its length and as a prefix
 
 no-sentence : (M : Map) (N : Node) (α : List Atom) (ψ : Descs) → M N α ≡ None → theory M N α ≡ Some ψ → ⊥
-no-sentence M N α ψ e s = let z : _≡_ {A = ℕ} 0 1 = cc (ap (sentence-of N α) e) in omega arith
+no-sentence M N α ψ e s = impossible (cc (ap (sentence-of N α) e))
 
 most-specific : {M : Map} {N : Node} {p : List Atom} {k : ℕ} {t : Terms} → Longest M N p k t
     → Most-specific (theory M) N (take k p) (drop k p) (written-out N (take k p) t)

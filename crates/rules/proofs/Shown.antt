@@ -8,6 +8,7 @@ use lib.Dec.{leb}
 use Rattle.std.proofs.shelf.Tests.{leb-true, leb-false}
 use Rattle.terms.specs.declared.items.Atom.{Atom}
 use Rattle.terms.specs.Maps.{Map}
+use Rattle.terms.proofs.Impossible.{impossible}
 use Rattle.rules.specs.Questions.{Question}
 use Rattle.rules.specs.Keller.{Derives, Within, def-uses}
 use Rattle.rules.specs.Outcomes.{Stop, Outcome, value, stopped}
@@ -20,11 +21,11 @@ module _ (M : Map) (q : Question) (granted : ℕ) where
   -- nothing is settled yet
   waiting : (r : Outcome) → outcome M q ≡ r → granted < steps r → Shown-by-the-rules M q granted unfinished (min granted (steps r))
   waiting r e h = record {
-    value-if-derived-in-time = λ v. (λ x. let z : _≡_ {A = ℕ} 0 1 = cc in absurd (omega arith), λ x. absurd (late v x));
+    value-if-derived-in-time = λ v. (λ x. impossible (cc), λ x. absurd (late v x));
     unfinished-if-more-steps-are-due = (λ _. rw e h, λ _. refl);
-    undefined-has-no-derivation = λ x. let z : _≡_ {A = ℕ} 0 1 = cc in absurd (omega arith);
-    circular-has-no-derivation = λ x. let z : _≡_ {A = ℕ} 0 1 = cc in absurd (omega arith);
-    uses-are-the-steps = λ v x. let z : _≡_ {A = ℕ} 0 1 = cc in absurd (omega arith);
+    undefined-has-no-derivation = λ x. impossible (cc);
+    circular-has-no-derivation = λ x. impossible (cc);
+    uses-are-the-steps = λ v x. impossible (cc);
   }
     where
       late : (v : List Atom) → ((d : Derives M q v) × Within d × (def-uses d ≤ granted)) → ⊥
@@ -37,11 +38,11 @@ module _ (M : Map) (q : Question) (granted : ℕ) where
   with-value w n e h = record {
     value-if-derived-in-time = λ v. (there v, back v);
     unfinished-if-more-steps-are-due = (
-      λ x. let z : _≡_ {A = ℕ} 0 1 = cc in absurd (omega arith),
+      λ x. impossible (cc),
       λ x. let m : steps (outcome M q) ≡ n = ap steps e in absurd (omega arith),
     );
-    undefined-has-no-derivation = λ x. let z : _≡_ {A = ℕ} 0 1 = cc in absurd (omega arith);
-    circular-has-no-derivation = λ x. let z : _≡_ {A = ℕ} 0 1 = cc in absurd (omega arith);
+    undefined-has-no-derivation = λ x. impossible (cc);
+    circular-has-no-derivation = λ x. impossible (cc);
     uses-are-the-steps = λ v x u d.
         let s = values-are-derived M q w n e in
         let o = derivations-agree M q u w d (s .0) in
@@ -59,20 +60,20 @@ module _ (M : Map) (q : Question) (granted : ℕ) where
 
   with-none : (s : Stop) (n : ℕ) → outcome M q ≡ stopped s n → n ≤ granted → Shown-by-the-rules M q granted (ended s) (min granted n)
   with-none s n e h = record {
-    value-if-derived-in-time = λ v. (λ x. let z : _≡_ {A = ℕ} 0 1 = cc in absurd (omega arith), λ x. absurd (none v x));
+    value-if-derived-in-time = λ v. (λ x. impossible (cc), λ x. absurd (none v x));
     unfinished-if-more-steps-are-due = (
-      λ x. let z : _≡_ {A = ℕ} 0 1 = cc in absurd (omega arith),
+      λ x. impossible (cc),
       λ x. let m : steps (outcome M q) ≡ n = ap steps e in absurd (omega arith),
     );
     undefined-has-no-derivation = λ x. let y : s ≡ Stop.undefined = cc in stops-mean-no-derivation M q n .undefined-is-not-derived (e ∙ ap (λ a. stopped a n) y);
     circular-has-no-derivation = λ x. let y : s ≡ Stop.circular = cc in stops-mean-no-derivation M q n .circular-is-not-derived (e ∙ ap (λ a. stopped a n) y);
-    uses-are-the-steps = λ v x. let z : _≡_ {A = ℕ} 0 1 = cc in absurd (omega arith);
+    uses-are-the-steps = λ v x. impossible (cc);
   }
     where
       none : (v : List Atom) → ((d : Derives M q v) × Within d × (def-uses d ≤ granted)) → ⊥
       none v x =
           let k : stopped s n ≡ value v (def-uses (x .0)) = sym e ∙ derived-values-are-outcomes M q v (x .0) (x .1) in
-          let z : _≡_ {A = ℕ} 0 1 = cc in omega arith
+          impossible (cc)
 
   by-outcome : (r : Outcome) → outcome M q ≡ r → (b : Bool) → leb (steps r) granted ≡ b
       → Shown-by-the-rules M q granted (elim b [ true ↦ settled r | false ↦ unfinished ]) (min granted (steps r))

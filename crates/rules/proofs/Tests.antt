@@ -2,8 +2,7 @@
 use mathlib.Core.Path.{_≡_, refl, subst}
 use mathlib.Core.List.{List, [], _∷_}
 use mathlib.Core.Bool.{Bool, true, false}
-use Prim.Native.Nat.{ℕ, _≤_, _<_}
-use native.Mathlib.Omega.{arith}
+use Prim.Native.Nat.{_≤_, _<_}
 use lib.Dec.{leb, eqb}
 use lib.ListN.{length}
 use Rattle.std.specs.declared.option.Option.{Option}
@@ -11,6 +10,7 @@ use Rattle.std.specs.declared.option.Option.the-variants.{Some, None}
 use Rattle.std.proofs.shelf.Tests.{leb-true, leb-false, and-parts, and-from, eqb-true, eq-eqb}
 use Rattle.terms.specs.declared.items.Atom.{Atom}
 use Rattle.terms.specs.Limits.{path-limit}
+use Rattle.terms.proofs.Impossible.{impossible}
 use Rattle.rules.specs.Questions.{Question}
 use Rattle.rules.specs.Outcomes.{Stop}
 use Rattle.rules.specs.Theorems.{Same-question-is-equality}
@@ -26,7 +26,7 @@ passed-narrow opened q e = go (leb (length (q .path)) path-limit) refl e
         → _≡_ {A = Option Stop} (elim b [ false ↦ Some Stop.path | true ↦ elim (among q opened) [ true ↦ Some Stop.circular | false ↦ None ] ]) None
         → length (q .path) ≤ path-limit
     go true t e = leb-true (length (q .path)) path-limit t
-    go false t e = let z : _≡_ {A = ℕ} 0 1 = cc in absurd (omega arith)
+    go false t e = impossible (cc)
 
 -- why a question is barred
 abbrev pub Bars : List Question → Question → Option Stop → Type 0

@@ -7,6 +7,7 @@ use native.Mathlib.Omega.{arith}
 use lib.Dec.{ltb}
 use Rattle.std.specs.declared.option.Option.{Option}
 use Rattle.std.proofs.shelf.Tests.{and-parts, ltb-true, lt-ltb}
+use Rattle.terms.proofs.Impossible.{impossible}
 use Rattle.terms.specs.declared.items.Node.{Node}
 use Rattle.terms.specs.declared.items.Atom.{Atom}
 use Rattle.terms.specs.declared.items.Quoting.{Quoting}
@@ -44,7 +45,7 @@ opened d q n items inside (rest ∷ behind) g = record {
 good : (d : ℕ) (items : List Item) → d ≤ nesting-limit → balanced d items ≡ true → Good d items (read items)
 unfolding balanced read
 good zero [] m e = record { whole = refl; first = omega arith; behind = tt }
-good (suc d) [] m e = let z : _≡_ {A = ℕ} 0 1 = cc in absurd (omega arith)
+good (suc d) [] m e = impossible (cc)
 good d (item.Atom a ∷ more) m e =
     let g = good d more m e in record { whole = ap (λ x. item.Atom a ∷ x) (g .whole); first = g .first; behind = g .behind }
 good d (item.Node q n ∷ more) m e =
@@ -52,7 +53,7 @@ good d (item.Node q n ∷ more) m e =
 good d (item.Open q n ∷ more) m e =
     let h = and-parts (ltb d nesting-limit) (balanced (suc d) more) e in
     opened d q n more (read more .first) (read more .behind) (good (suc d) more (ltb-true d nesting-limit (h .0)) (h .1))
-good zero (item.Close ∷ more) m e = let z : _≡_ {A = ℕ} 0 1 = cc in absurd (omega arith)
+good zero (item.Close ∷ more) m e = impossible (cc)
 good (suc d) (item.Close ∷ more) m e =
     let g = good d more (omega arith) e in record { whole = ap (λ x. item.Close ∷ x) (g .whole); first = omega arith; behind = (g .first, g .behind) }
 

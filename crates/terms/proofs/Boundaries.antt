@@ -1,13 +1,13 @@
 -- Sentences at the limits, computed.
 use mathlib.Core.Path.{_≡_, refl}
 use mathlib.Core.Bool.{true, false}
-use Prim.Native.Nat.{ℕ}
 use native.Mathlib.Omega.{arith}
+use Rattle.terms.proofs.Impossible.{impossible}
 use Rattle.terms.specs.Terms.{balanced}
 use Rattle.terms.specs.Boundaries.{Sentences-end-at-the-limits}
 
 never : false ≡ true → ⊥
-never e = let z : _≡_ {A = ℕ} 0 1 = cc in omega arith
+never e = impossible (cc)
 
 pub sentences-end-at-the-limits : Sentences-end-at-the-limits
 unfolding balanced

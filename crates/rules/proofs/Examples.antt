@@ -32,7 +32,7 @@ paths-end-at-32 = (refl, refl, refl)
 
 pub tests-come-in-order : Tests-come-in-order
 unfolding outcome ask work look-up barred
-tests-come-in-order = (refl, refl)
+tests-come-in-order = (refl, refl, refl)
 
 pub terms-are-worked-from-left-to-right : Terms-are-worked-from-left-to-right
 unfolding outcome ask work look-up barred

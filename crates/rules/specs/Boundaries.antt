@@ -9,17 +9,18 @@ use Rattle.terms.specs.declared.items.Atom.{Atom}
 use Rattle.terms.specs.Terms.{Terms}
 use Rattle.terms.specs.Maps.{Map}
 use Rattle.rules.specs.Outcomes.{Stop, value, stopped}
-use Rattle.rules.specs.Theories.{node, Sentence, says, map-of, end, words, inherits, pair, local, row, Comes-to}
+use Rattle.rules.specs.Theories.{node, Sentence, says, map-of, end, words, inherits, pair, local, Row, row, Comes-to}
 use Rattle.rules.specs.Theories as theories
 
 abbrev a : Atom
 a = theories.atom 7
 
--- At the node k stands `last`; each node before it has the next one so often.
+-- At the node k stands `last`; each node before it inherits from the next.
 abbrev chain : ℕ → Terms → Map
 chain k last n [] = elim (eqb (n .0) k) [ true ↦ Some last | false ↦ Some (inherits (node (suc (n .0))) end) ]
 chain k last n (b ∷ p) = None
 
+-- each node before k inherits from the next twice
 abbrev doubling : ℕ → Map
 doubling k n [] =
     elim (eqb (n .0) k) [
@@ -42,35 +43,35 @@ Values-end-at-256 =
     × Comes-to (map-of (says (node 0) [] (words 257 a (inherits (node 0) end)) ∷ [])) (row (node 0) [] (stopped Stop.length 1) ∷ [])
     × Comes-to (doubling 9) (row (node 0) [] (stopped Stop.length 521) ∷ [])
 
--- 0: <> == <a .. a 1>. 1: <> == a. 2: <> ==.
+-- At 0 a pair of the node 1, with so many atoms inside and `last` behind them; a at 1, and nothing at 2.
 abbrev inside : ℕ → Terms → List Sentence
 inside k last = says (node 0) [] (pair (node 1) (words k a last) end) ∷ says (node 1) [] (words 1 a end) ∷ says (node 2) [] end ∷ []
 
--- A question of 32 atoms is asked; one of 33 ends by path, before any look-up of it. The inside of a path has 32 atoms; a 33rd ends
--- it there and then, with the terms behind it left alone.
-abbrev pub Paths-end-at-32 : Type 0
-Paths-end-at-32 =
-    Comes-to (map-of (inside 32 end)) (
+abbrev of-32 : List Row
+of-32 =
     row (node 1) (replicate 32 a) (value (a ∷ []) 1)
     ∷ row (node 1) (replicate 33 a) (stopped Stop.path 0)
     ∷ row (node 0) [] (value (a ∷ []) 2)
     ∷ row (node 0) (a ∷ []) (stopped Stop.path 1)
     ∷ []
-    )
+
+-- A question of 32 atoms is asked; one of 33 ends by path, before any look-up of it. The inside of a path has 32 atoms; a 33rd ends
+-- it there and then, with the terms behind it left alone.
+abbrev pub Paths-end-at-32 : Type 0
+Paths-end-at-32 =
+    Comes-to (map-of (inside 32 end)) of-32
     × Comes-to (map-of (inside 32 (inherits (node 2) end))) (row (node 0) [] (value (a ∷ []) 3) ∷ [])
     × Comes-to (map-of (inside 33 (inherits (node 2) end))) (row (node 0) [] (stopped Stop.path 1) ∷ [])
 
--- With 96 sentences open: a path that is too long comes first, then a circle, and then the depth.
+-- With 96 sentences open, a circle and a path that is too long come before the depth. (They never meet: no open sentence's question is too
+-- long.)
 abbrev pub Tests-come-in-order : Type 0
 Tests-come-in-order =
     Comes-to (chain 95 (inherits (node 0) end)) (row (node 0) [] (stopped Stop.circular 96) ∷ [])
-    × Comes-to (chain 95 (local (words 32 a end) end)) (
-    row (node 0) (a ∷ []) (stopped Stop.path 96)
-    ∷ row (node 0) [] (stopped Stop.depth 96)
-    ∷ []
-    )
+    × Comes-to (chain 95 (local (words 32 a end) end)) (row (node 0) (a ∷ []) (stopped Stop.path 96) ∷ [])
+    × Comes-to (chain 95 (local (words 32 a end) end)) (row (node 0) [] (stopped Stop.depth 96) ∷ [])
 
--- 0: <> == 1 2. 1: <> == 3. 2: <> == 2. 4: <> == 2 1.
+-- The node 1 is undefined, since there is no 3, and 2 is circular; 0 has both, and 4 has them the other way round.
 abbrev both-stop : List Sentence
 both-stop =
     says (node 0) [] (inherits (node 1) (inherits (node 2) end))

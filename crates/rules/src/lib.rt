@@ -81,7 +81,7 @@ pub fn limits_end_where_they_say() -> u8
     0
 }
 
-/// A new question is tested for path, then circular, then depth, and the first term that stops says why.
+/// A new question is tested for depth after path and circular, and the first term that stops says why.
 pub fn tests_and_terms_come_in_order() -> u8
     ensures { λ _. ⌜ Tests-come-in-order ⌝ ∗ ⌜ Terms-are-worked-from-left-to-right ⌝ }
 {

@@ -1,20 +1,19 @@
 -- Balanced items and lists of terms are the same thing.
--- Assumes nothing.
-use mathlib.Core.Path.{_≡_, refl, sym, ap, subst, _∙_}
-use mathlib.Core.Bool.{Bool, true, false, _&&_}
+use mathlib.Core.Path.{_≡_, refl, sym, ap, _∙_}
+use mathlib.Core.Bool.{true, _&&_}
 use mathlib.Core.List.{List, [], _∷_, _++_, append-assoc}
-use mathlib.Core.Logic.{_↔_}
-use Prim.Native.Nat.{ℕ, zero, suc, _+_, _≤_, _<_, max}
+use Prim.Native.Nat.{ℕ, zero, suc, _+_, _≤_}
 use native.Mathlib.Omega.{arith}
 use lib.Dec.{ltb}
-use lib.ListN.{length}
 use Rattle.std.specs.declared.option.Option.{Option}
-use Rattle.std.proofs.shelf.Tests.{and-parts, and-from, ltb-true, lt-ltb}
+use Rattle.std.proofs.shelf.Tests.{and-parts, ltb-true, lt-ltb}
+use Rattle.terms.proofs.Impossible.{impossible}
 use Rattle.terms.specs.declared.items.Node.{Node}
 use Rattle.terms.specs.declared.items.Atom.{Atom}
 use Rattle.terms.specs.declared.items.Quoting.{Quoting}
 use Rattle.terms.specs.declared.items.Item.{Item}
 use Rattle.terms.specs.declared.items.Item.the-variants as item
+use Rattle.terms.specs.Limits.{nesting-limit}
 use Rattle.terms.specs.Terms.{Terms, flat, nesting, balanced, Reading, in-path, read, terms-of, Balanced-items-are-term-lists, Items-read-back}
 
 -- the items that a reading is of
@@ -27,11 +26,11 @@ abbrev Shallow : ℕ → List Terms → Type 0
 Shallow zero [] = Unit {0}
 Shallow zero (t ∷ behind) = ⊥
 Shallow (suc d) [] = ⊥
-Shallow (suc d) (t ∷ behind) = (d + nesting t ≤ 4) × Shallow d behind
+Shallow (suc d) (t ∷ behind) = (d + nesting t ≤ nesting-limit) × Shallow d behind
 
 record Good (d : ℕ) (items : List Item) (r : Reading) : Type 0 where
   whole : flat (r .first) ++ closed (r .behind) ≡ items
-  first : d + nesting (r .first) ≤ 4
+  first : d + nesting (r .first) ≤ nesting-limit
   behind : Shallow d (r .behind)
 
 opened : (d : ℕ) (q : Quoting) (n : Option Node) (items : List Item) (inside : Terms) (behind : List Terms)
@@ -43,23 +42,23 @@ opened d q n items inside (rest ∷ behind) g = record {
   behind = g .behind .1;
 }
 
-good : (d : ℕ) (items : List Item) → d ≤ 4 → balanced d items ≡ true → Good d items (read items)
+good : (d : ℕ) (items : List Item) → d ≤ nesting-limit → balanced d items ≡ true → Good d items (read items)
 unfolding balanced read
 good zero [] m e = record { whole = refl; first = omega arith; behind = tt }
-good (suc d) [] m e = let z : _≡_ {A = ℕ} 0 1 = cc in absurd (omega arith)
+good (suc d) [] m e = impossible (cc)
 good d (item.Atom a ∷ more) m e =
     let g = good d more m e in record { whole = ap (λ x. item.Atom a ∷ x) (g .whole); first = g .first; behind = g .behind }
 good d (item.Node q n ∷ more) m e =
     let g = good d more m e in record { whole = ap (λ x. item.Node q n ∷ x) (g .whole); first = g .first; behind = g .behind }
 good d (item.Open q n ∷ more) m e =
-    let h = and-parts (ltb d 4) (balanced (suc d) more) e in
-    opened d q n more (read more .first) (read more .behind) (good (suc d) more (ltb-true d 4 (h .0)) (h .1))
-good zero (item.Close ∷ more) m e = let z : _≡_ {A = ℕ} 0 1 = cc in absurd (omega arith)
+    let h = and-parts (ltb d nesting-limit) (balanced (suc d) more) e in
+    opened d q n more (read more .first) (read more .behind) (good (suc d) more (ltb-true d nesting-limit (h .0)) (h .1))
+good zero (item.Close ∷ more) m e = impossible (cc)
 good (suc d) (item.Close ∷ more) m e =
     let g = good d more (omega arith) e in record { whole = ap (λ x. item.Close ∷ x) (g .whole); first = omega arith; behind = (g .first, g .behind) }
 
 -- terms in front do not change whether items are balanced
-balanced-behind : (t : Terms) (d : ℕ) (items : List Item) → d + nesting t ≤ 4 → balanced d (flat t ++ items) ≡ balanced d items
+balanced-behind : (t : Terms) (d : ℕ) (items : List Item) → d + nesting t ≤ nesting-limit → balanced d (flat t ++ items) ≡ balanced d items
 unfolding balanced
 balanced-behind Terms.done d items h = refl
 balanced-behind (Terms.atom a rest) d items h = balanced-behind rest d items h
@@ -67,8 +66,8 @@ balanced-behind (Terms.node q n rest) d items h = balanced-behind rest d items h
 balanced-behind (Terms.path q n inside rest) d items h =
     let a = balanced-behind inside (suc d) (item.Close ∷ (flat rest ++ items)) (omega arith) in
     let b = balanced-behind rest d items (omega arith) in
-    let c : ltb d 4 ≡ true = lt-ltb d 4 (omega arith) in
-    ap (λ x. ltb d 4 && balanced (suc d) x) (append-assoc (flat inside) (item.Close ∷ flat rest) items) ∙ rw c (a ∙ b)
+    let c : ltb d nesting-limit ≡ true = lt-ltb d nesting-limit (omega arith) in
+    ap (λ x. ltb d nesting-limit && balanced (suc d) x) (append-assoc (flat inside) (item.Close ∷ flat rest) items) ∙ rw c (a ∙ b)
 
 -- one list of terms behind another
 abbrev graft : Terms → Terms → Terms
@@ -119,12 +118,12 @@ pub balanced-items-are-term-lists : Balanced-items-are-term-lists
 unfolding balanced
 balanced-items-are-term-lists items = (there, back)
   where
-    there : balanced 0 items ≡ true → (t : Terms) × (flat t ≡ items) × (nesting t ≤ 4)
+    there : balanced 0 items ≡ true → (t : Terms) × (flat t ≡ items) × (nesting t ≤ nesting-limit)
     there e =
         let g = good 0 items (omega arith) e in
         (read items .first, only-first items (read items) g, let h = g .first in omega arith)
 
-    back : ((t : Terms) × (flat t ≡ items) × (nesting t ≤ 4)) → balanced 0 items ≡ true
+    back : ((t : Terms) × (flat t ≡ items) × (nesting t ≤ nesting-limit)) → balanced 0 items ≡ true
     back x =
         let k = x .2 in
         ap (balanced 0) (sym (x .1) ∙ sym (append-nil (flat (x .0)))) ∙ balanced-behind (x .0) 0 [] (omega arith)

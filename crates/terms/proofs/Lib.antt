@@ -1,2 +1,4 @@
+pub mod Impossible
 pub mod Balance
 pub mod LookUp
+pub mod Boundaries

@@ -1,16 +1,14 @@
 -- A look-up finds the longest left path.
--- Assumes nothing.
-use mathlib.Core.Path.{_≡_, refl, sym, ap, subst, _∙_}
-use mathlib.Core.List.{List, [], _∷_, _++_}
+use mathlib.Core.Path.{_≡_, refl, subst}
+use mathlib.Core.List.{List, [], _∷_}
 use mathlib.Core.Logic.{_⊎_, inl, inr, _↔_}
-use mathlib.Core.Bool.{Bool, true, false, _&&_, _||_}
-use Prim.Native.Nat.{ℕ, zero, suc, _+_, _≤_, _<_}
+use Prim.Native.Nat.{ℕ, zero, suc, _≤_, _<_}
 use native.Mathlib.Omega.{arith}
-use lib.Dec.{leb, eqb}
-use lib.ListN.{length, take, drop}
+use lib.ListN.{length, take}
 use Rattle.std.specs.declared.option.Option.{Option}
 use Rattle.std.specs.declared.option.Option.the-variants.{Some, None}
-use Rattle.std.proofs.shelf.Tests.{cases-order, leb-true, leb-false, and-parts, and-from, eqb-true, eq-eqb}
+use Rattle.std.proofs.shelf.Tests.{cases-order}
+use Rattle.terms.proofs.Impossible.{impossible}
 use Rattle.terms.specs.declared.items.Node.{Node}
 use Rattle.terms.specs.declared.items.Atom.{Atom}
 use Rattle.terms.specs.Terms.{Terms}
@@ -82,14 +80,14 @@ module _ (M : Map) (n : Node) (p : List Atom) where
           λ m. let o = one-longest l m in λ i. found (o .0 i) (o .1 i),
         ),
         (
-          λ x. let z : _≡_ {A = ℕ} 0 1 = cc in absurd (omega arith),
-          λ f. let a = f j (h .0) in let b = h .1 in let z : _≡_ {A = ℕ} 0 1 = cc in absurd (omega arith),
+          λ x. impossible (cc),
+          λ f. let a = f j (h .0) in let b = h .1 in impossible (cc),
         ),
       )
   by-look nothing e h = (
     λ k t. (
-      λ x. let z : _≡_ {A = ℕ} 0 1 = cc in absurd (omega arith),
-      λ m. let a = h k (m .within) in let b = m .sentence in let z : _≡_ {A = ℕ} 0 1 = cc in absurd (omega arith),
+      λ x. impossible (cc),
+      λ m. let a = h k (m .within) in let b = m .sentence in impossible (cc),
     ),
     (λ _. h, λ _. refl),
   )

@@ -2,3 +2,4 @@ pub mod Limits
 pub mod Terms
 pub mod Maps
 pub mod LookUp
+pub mod Boundaries

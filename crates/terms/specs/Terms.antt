@@ -1,5 +1,4 @@
 -- Right sides: lists of terms, and the items that they are kept as.
--- Assumes nothing.
 use mathlib.Core.Path.{_≡_}
 use mathlib.Core.Bool.{Bool, true, false, _&&_}
 use mathlib.Core.List.{List, [], _∷_, _++_}
@@ -12,6 +11,7 @@ use Rattle.terms.specs.declared.items.Atom.{Atom}
 use Rattle.terms.specs.declared.items.Quoting.{Quoting}
 use Rattle.terms.specs.declared.items.Item.{Item}
 use Rattle.terms.specs.declared.items.Item.the-variants as item
+use Rattle.terms.specs.Limits.{nesting-limit}
 
 -- A list of terms. A path has an optional node and a list of terms inside.
 pub data Terms : Type 0 where
@@ -34,13 +34,13 @@ nesting (atom a rest) = nesting rest
 nesting (node q n rest) = nesting rest
 nesting (path q n inside rest) = max (suc (nesting inside)) (nesting rest)
 
--- with d paths open: every close has its opening, every opening its close, and at most four are open at a time
+-- with d paths open: every close has its opening, every opening its close, and no more than may nest are open at a time
 unfoldable pub balanced : ℕ → List Item → Bool
 balanced zero [] = true
 balanced (suc d) [] = false
 balanced d (item.Atom a ∷ more) = balanced d more
 balanced d (item.Node q n ∷ more) = balanced d more
-balanced d (item.Open q n ∷ more) = ltb d 4 && balanced (suc d) more
+balanced d (item.Open q n ∷ more) = ltb d nesting-limit && balanced (suc d) more
 balanced zero (item.Close ∷ more) = false
 balanced (suc d) (item.Close ∷ more) = balanced d more
 
@@ -64,9 +64,10 @@ read (item.Close ∷ more) = let r : Reading = read more in record { first = don
 unfoldable pub terms-of : List Item → Terms
 terms-of items = read items .first
 
--- Items are balanced exactly if they are a list of terms in which paths nest four deep at most; and they are one such list only.
+-- Items are balanced exactly if they are a list of terms in which paths nest no deeper than they may.
 abbrev pub Balanced-items-are-term-lists : Type 0
-Balanced-items-are-term-lists = (items : List Item) → (balanced 0 items ≡ true) ↔ ((t : Terms) × (flat t ≡ items) × (nesting t ≤ 4))
+Balanced-items-are-term-lists = (items : List Item) → (balanced 0 items ≡ true) ↔ ((t : Terms) × (flat t ≡ items) × (nesting t ≤ nesting-limit))
 
+-- the items of a list of terms are read back as that list, so they are of no other
 abbrev pub Items-read-back : Type 0
 Items-read-back = (t : Terms) → terms-of (flat t) ≡ t

@@ -1,0 +1,11 @@
+pub mod Questions
+pub mod Keller
+pub mod Table
+pub mod Outcomes
+pub mod Evaluation
+pub mod Shown
+pub mod Theorems
+pub mod Theories
+pub mod Worked
+pub mod QuestionTable
+pub mod Boundaries

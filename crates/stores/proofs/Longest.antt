@@ -95,3 +95,12 @@ module _ (X Y : List Atom → Option Terms) (p : List Atom) where
   found-either =
       sym (found-upto (λ l. either (X l) (Y l)) p) ∙ upto-either (length p)
       ∙ ap (λ o. larger o (upto Y p (length p))) (found-upto X p) ∙ ap (larger (length-found (look-up X p))) (found-upto Y p)
+
+-- ---- the right side over two maps
+pub either-upper : (a b : Option Terms) → isSome a ≡ true → a ≡ either a b
+either-upper None b h = absurd (let z : _≡_ {A = ℕ} 0 1 = cc in omega arith)
+either-upper (Some t) b h = refl
+
+pub either-lower : (a b : Option Terms) → isSome a ≡ false → b ≡ either a b
+either-lower None b h = refl
+either-lower (Some t) b h = absurd (let z : _≡_ {A = ℕ} 0 1 = cc in omega arith)

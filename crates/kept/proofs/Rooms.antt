@@ -10,7 +10,7 @@ use Rattle.std.proofs.shelf.Tests.{or-parts, or-from, or-left, or-right, ltb-fa
 use Rattle.std.proofs.shelf.Ways.{tells}
 use Rattle.stores.specs.Sentences.{Sentence, atoms-in, items-in}
 use Rattle.kept.specs.declared.Room.{Room}
-use Rattle.kept.specs.Held.{passes, smaller}
+use Rattle.kept.specs.Held.{passes, smaller, limits-of}
 
 pub record Within (k : Room) (ss : List Sentence) (a i : ℕ) : Type 0 where
   pub sentences : length ss + 1 ≤ k .sentences
@@ -56,3 +56,14 @@ passes-items k ss a i h g b e =
 
 pub same-test : (m i n t : ℕ) → i ≤ m → n ≡ t → ltb (m - i) n ≡ ltb m (t + i)
 same-test m i n t l e = grind (arith, tells)
+
+-- limits that there is memory for
+min-same : (a b : ℕ) → b ≡ a → min a b ≡ a
+min-same a b e = omega arith
+
+pub smaller-limits : (s a i : ℕ) (r : Room) → r .sentences ≡ s → r .atoms ≡ a → r .items ≡ i → limits-of (smaller (record { sentences = s; atoms = a; items = i }) r) ≡ record { sentences = s; atoms = a; items = i }
+smaller-limits s a i r x y z =
+    let p = min-same s (r .sentences) x in
+    let q = min-same a (r .atoms) y in
+    let t = min-same i (r .items) z in
+    λ j. record { sentences = p j; atoms = q j; items = t j }

@@ -3,7 +3,7 @@ use mathlib.Core.Path.{_≡_, refl, sym, ap, subst, _∙_}
 use mathlib.Core.Bool.{Bool, true, false, cond, not, _&&_}
 use mathlib.Core.List.{List, [], _∷_, _++_, map}
 use mathlib.Core.Logic.{⊎-elim}
-use Prim.Native.Nat.{ℕ, zero, suc, _+_, _-_, _/_, _<_, _≤_, min}
+use Prim.Native.Nat.{ℕ, zero, suc, _+_, _-_, _/_, _<_, _≤_}
 use native.Mathlib.Omega.{arith}
 use lib.Dec.{eqb, ltb}
 use lib.ListN.{length, take, getD, length-map}
@@ -24,7 +24,7 @@ use Rattle.stores.specs.Refusals.{fits}
 use Rattle.stores.proofs.Pairs.{pair-is}
 use Rattle.stores.proofs.Longest.{upto, found-upto}
 use Rattle.kept.specs.declared.Room.{Room}
-use Rattle.kept.specs.Held.{of-pair, passes, smaller, limits-of}
+use Rattle.kept.specs.Held.{of-pair, passes, smaller}
 use Rattle.kept.proofs.Rooms.{within, within-smaller}
 use Rattle.kept.specs.Firsts.{first-by}
 use Rattle.kept.proofs.Firsts.{first-other, first-new, first-none, some-first}
@@ -145,14 +145,3 @@ best-more ss n p q i best best′ l e b b′ =
 
 pub best-all : (ss : List Sentence) (n : Node) (p : List Atom) (i : ℕ) (best : Option ℕ) → i ≡ length p → best ≡ upto (map-of ss n) p i → best ≡ length-found (look-up (map-of ss n) p)
 best-all ss n p i best e b = b ∙ ap (upto (map-of ss n) p) e ∙ found-upto (map-of ss n) p
-
--- ---- limits that there is memory for
-min-same : (a b : ℕ) → b ≡ a → min a b ≡ a
-min-same a b e = omega arith
-
-pub smaller-limits : (s a i : ℕ) (r : Room) → r .sentences ≡ s → r .atoms ≡ a → r .items ≡ i → limits-of (smaller (record { sentences = s; atoms = a; items = i }) r) ≡ record { sentences = s; atoms = a; items = i }
-smaller-limits s a i r x y z =
-    let p = min-same s (r .sentences) x in
-    let q = min-same a (r .atoms) y in
-    let t = min-same i (r .items) z in
-    λ j. record { sentences = p j; atoms = q j; items = t j }

@@ -3,7 +3,7 @@ use Rattle.stores.specs.Sentences.{sentence}
 use Rattle.stores.specs.Refusals.{Limits, refusal, answer, kept-after}
 use Rattle.kept.specs.Held.{limits-of, smaller}
 use Rattle.listed.specs.Held.{held-in, room-in}
-use Rattle.listed.proofs.Numbers.{smaller-limits}
+use Rattle.kept.proofs.Rooms.{smaller-limits}
 use Rattle.addendum.specs.Held as own
 use Rattle.addendum.proofs.keep.AddendumKeeper.add.Needs as need
 

@@ -1,0 +1,6 @@
+pub mod Spelled
+pub mod Sound
+pub mod Complete
+pub mod Steps
+pub mod Loads
+pub mod Misplaced

@@ -1,0 +1,4 @@
+pub mod Trees
+pub mod Parsing
+pub mod Loading
+pub mod Theorems

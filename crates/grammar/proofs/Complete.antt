@@ -120,23 +120,29 @@ opened : (h : Head) (r : Bool) (f : Frames) (b : Terms) (q : Quoting) (n : Optio
 unfolding parse
 opened h r f b plain None S M x = (x .0, ap (λ (T : Stream). parse T (side h r ready f b)) (x .1 .1 .0) ∙ ap (λ (T : Stream). parse T (side h r ready (within (x .0) plain None b f) done)) (x .1 .1 .1))
 opened h r f b plain (Some n) S M x =
-    let y = x .1 .1 .1 in let z = y .1 .1 .1 in
-    (z .0, ap (λ (T : Stream). parse T (side h r ready f b)) (x .1 .1 .0)
-    ∙ ap (λ (T : Stream). parse T (side h r (Parsing.noded n) f b)) (y .1 .1 .0)
-    ∙ ap (λ (T : Stream). parse T (side h r (Parsing.coloned plain n) f b)) (z .1 .1 .0)
-    ∙ ap (λ (T : Stream). parse T (side h r ready (within (z .0) plain (Some n) b f) done)) (z .1 .1 .1))
+    let y = x .1 .1 .1 in let z = y .1 .1 .1 in (
+      z .0,
+      ap (λ (T : Stream). parse T (side h r ready f b)) (x .1 .1 .0)
+          ∙ ap (λ (T : Stream). parse T (side h r (Parsing.noded n) f b)) (y .1 .1 .0)
+          ∙ ap (λ (T : Stream). parse T (side h r (Parsing.coloned plain n) f b)) (z .1 .1 .0)
+          ∙ ap (λ (T : Stream). parse T (side h r ready (within (z .0) plain (Some n) b f) done)) (z .1 .1 .1),
+    )
 opened h r f b quoted None S M x =
-    let y = x .1 .1 .1 in
-    (y .0, ap (λ (T : Stream). parse T (side h r ready f b)) (x .1 .1 .0)
-    ∙ ap (λ (T : Stream). parse T (side h r Parsing.quoting f b)) (y .1 .1 .0)
-    ∙ ap (λ (T : Stream). parse T (side h r ready (within (y .0) quoted None b f) done)) (y .1 .1 .1))
+    let y = x .1 .1 .1 in (
+      y .0,
+      ap (λ (T : Stream). parse T (side h r ready f b)) (x .1 .1 .0)
+          ∙ ap (λ (T : Stream). parse T (side h r Parsing.quoting f b)) (y .1 .1 .0)
+          ∙ ap (λ (T : Stream). parse T (side h r ready (within (y .0) quoted None b f) done)) (y .1 .1 .1),
+    )
 opened h r f b quoted (Some n) S M x =
-    let y = x .1 .1 .1 in let z = y .1 .1 .1 in let v = z .1 .1 .1 in
-    (v .0, ap (λ (T : Stream). parse T (side h r ready f b)) (x .1 .1 .0)
-    ∙ ap (λ (T : Stream). parse T (side h r Parsing.quoting f b)) (y .1 .1 .0)
-    ∙ ap (λ (T : Stream). parse T (side h r (Parsing.quoted-node n) f b)) (z .1 .1 .0)
-    ∙ ap (λ (T : Stream). parse T (side h r (Parsing.coloned quoted n) f b)) (v .1 .1 .0)
-    ∙ ap (λ (T : Stream). parse T (side h r ready (within (v .0) quoted (Some n) b f) done)) (v .1 .1 .1))
+    let y = x .1 .1 .1 in let z = y .1 .1 .1 in let v = z .1 .1 .1 in (
+      v .0,
+      ap (λ (T : Stream). parse T (side h r ready f b)) (x .1 .1 .0)
+          ∙ ap (λ (T : Stream). parse T (side h r Parsing.quoting f b)) (y .1 .1 .0)
+          ∙ ap (λ (T : Stream). parse T (side h r (Parsing.quoted-node n) f b)) (z .1 .1 .0)
+          ∙ ap (λ (T : Stream). parse T (side h r (Parsing.coloned quoted n) f b)) (v .1 .1 .0)
+          ∙ ap (λ (T : Stream). parse T (side h r ready (within (v .0) quoted (Some n) b f) done)) (v .1 .1 .1),
+    )
 
 shut : (h : Head) (r : Bool) (p : ℕ) (f : Frames) (b : Terms) (q : Quoting) (n : Option Node) (i : Terms) (S M : Stream) → Reads (closes q) S M → calm M ≡ true → parse S (side h r ready (within p q n b f) i) ≡ parse M (side h r ready f (then b (path q n i done)))
 unfolding parse
@@ -229,8 +235,10 @@ from-begun e es g f p S M R = by (e .round) refl
   where
     h : Head
     h = record { front = f; place = p; left = e .left }
+
     more : (r : Bool) → e .round ≡ r → ended (Parsing.with-equation h r (e .right)) es ≡ ended f (e ∷ es)
     more r c = ap (λ (b : Bool). ended (Parsing.with-equation h b (e .right)) es) (sym c) ∙ ap (λ (l : List Equation). f .blocks ++ (record { name = f .name; equations = l }) ∷ []) (append-assoc (f .equations) (e ∷ []) es)
+
     by : (r : Bool) → e .round ≡ r → Reads (side-words r (e .right)) S M → Reads (to-stop es) M R → parse S (begun h) ≡ parse R (between (ended f (e ∷ es)))
     by false c x y =
         settle-begun h S (calm-words (e .right) S M x (calm-equations es M R y))
@@ -264,6 +272,7 @@ goes-more e es g = record { from-body = fb; from-side = fs }
     -- behind the left path's <
     tail : List Word
     tail = Greater ∷ Is ∷ side-words (e .round) (e .right)
+
     fb : (f : Front) (S R : Stream) → Reads (to-stop (e ∷ es)) S R → parse S (body f) ≡ parse R (between (ended f (e ∷ es)))
     fb f S R x =
         let x′ = subst (λ (l : List Word). Reads l S R) (append-assoc (equation-words e) (equations-words es) (Stop ∷ [])) x in
@@ -277,6 +286,7 @@ goes-more e es g = record { from-body = fb; from-side = fs }
         ∙ ap (λ (T : Stream). parse T (lefting f (y .0) (e .left))) (z .1 .1 .0)
         ∙ ap (λ (T : Stream). parse T (lefted h)) (u .1 .1 .0)
         ∙ from-begun e es g f (y .0) (u .1 .0) (m .0) R (u .1 .1 .1) (m .1 .1)
+
     fs : (h : Head) (t : Terms) (S R : Stream) → Reads (to-stop (e ∷ es)) S R → parse S (side h false ready outside t) ≡ parse R (between (ended (Parsing.with-equation h false t) (e ∷ es)))
     fs h t S R x =
         let x′ = subst (λ (l : List Word). Reads l S R) (append-assoc (equation-words e) (equations-words es) (Stop ∷ [])) x in

@@ -4,3 +4,4 @@ pub mod Complete
 pub mod Steps
 pub mod Loads
 pub mod Misplaced
+pub mod Naming

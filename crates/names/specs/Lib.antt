@@ -1,0 +1,3 @@
+pub mod Numbers
+pub mod Parts
+pub mod Held

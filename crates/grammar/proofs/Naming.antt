@@ -12,6 +12,7 @@ use Rattle.std.specs.declared.option.Option.{Option}
 use Rattle.std.specs.declared.option.Option.the-variants.{Some, None}
 use Rattle.stores.specs.Sentences.{Sentence}
 use Rattle.stores.specs.Refusals.{Limits}
+use Rattle.names.specs.Numbers.{number, met, name-at}
 use Rattle.words.specs.declared.faults.WordRefusal.{WordRefusal}
 use Rattle.words.specs.declared.faults.WordRefusal.the-variants.{BadByte, OpenQuote, NameLength}
 use Rattle.words.specs.Words as words
@@ -20,9 +21,9 @@ use Rattle.words.specs.Texts.{Words, end-at, fault-at, words-of}
 use Rattle.grammar.specs.Trees.{Word, sentences, Block}
 use Rattle.grammar.specs.Parsing.{Stream, word, over, broken, between, Outcome, accepted, refused}
 use Rattle.grammar.specs.Loading.{load}
-use Rattle.grammar.specs.Texts.{Names, number, met, token-word, token-names, numbering, all-names, text-limit, load-text, loaded-by, Loaded, kept, rejected}
+use Rattle.grammar.specs.Texts.{Names, token-word, token-names, numbering, all-names, text-limit, load-text, loaded-by, Loaded, kept, rejected}
 use Rattle.grammar.specs.Theorems.{Fits, Misplaced, Word-faults, Four-is-first}
-use Rattle.grammar.specs.Naming.{name-at, Is-word, Numbers, more, ended, fault, Extends, As-met, Names-are-numbered-as-met, Kept-exactly-if-a-theory-is-spelt, Four-is-at-the-first-misplaced-word}
+use Rattle.grammar.specs.Naming.{Is-word, Numbers, more, ended, fault, Extends, As-met, Names-are-numbered-as-met, Kept-exactly-if-a-theory-is-spelt, Four-is-at-the-first-misplaced-word}
 use Rattle.grammar.proofs.Loads.{load-fits, fits-load}
 
 met-keeps-at : (y x z : List ℕ) (ys : List (List ℕ)) → ((j : ℕ) → name-at ys j ≡ Some z → name-at (met ys x) j ≡ Some z) → (c : Bool) (k : ℕ) → name-at (y ∷ ys) k ≡ Some z → name-at (cond c (y ∷ ys) (y ∷ met ys x)) k ≡ Some z

@@ -1,13 +1,13 @@
 -- What holds of whole texts.
 use mathlib.Core.Path.{_≡_}
-use mathlib.Core.List.{List, [], _∷_}
+use mathlib.Core.List.{List}
 use mathlib.Core.Logic.{_↔_}
-use Prim.Native.Nat.{ℕ, zero, suc, _≤_}
+use Prim.Native.Nat.{ℕ, _≤_}
 use lib.ListN.{length}
-use Rattle.std.specs.declared.option.Option.{Option}
-use Rattle.std.specs.declared.option.Option.the-variants.{Some, None}
+use Rattle.std.specs.declared.option.Option.the-variants.{Some}
 use Rattle.stores.specs.Sentences.{Sentence}
 use Rattle.stores.specs.Refusals.{Limits}
+use Rattle.names.specs.Numbers.{name-at}
 use Rattle.words.specs.declared.faults.WordRefusal.{WordRefusal}
 use Rattle.words.specs.Words as words
 use Rattle.words.specs.Words.{Token}
@@ -16,12 +16,6 @@ use Rattle.grammar.specs.Trees.{Word, Atom-name, Node-name, Stray, Block, sent
 use Rattle.grammar.specs.Parsing.{Stream, word, over, broken}
 use Rattle.grammar.specs.Texts.{Names, sign-word, numbering, all-names, text-limit, load-text, Loaded, kept, rejected}
 use Rattle.grammar.specs.Theorems.{Fits, Misplaced}
-
--- the name with a number
-abbrev pub name-at : List (List ℕ) → ℕ → Option (List ℕ)
-name-at [] k = None
-name-at (x ∷ xs) zero = Some x
-name-at (x ∷ xs) (suc k) = name-at xs k
 
 -- v is the word t, its name being numbered by the table
 abbrev pub Is-word : Names → Token → Word → Type 0

@@ -1,14 +1,14 @@
 -- The words of a text, their names numbered as first met; and what loading a text gives.
-use mathlib.Core.Bool.{Bool, true, false, cond}
-use mathlib.Core.List.{List, [], _∷_}
-use Prim.Native.Nat.{ℕ, suc}
+use mathlib.Core.Bool.{cond}
+use mathlib.Core.List.{List, []}
+use Prim.Native.Nat.{ℕ}
 use lib.Dec.{ltb}
 use lib.ListN.{length}
-use Rattle.std.specs.shelf.Text.{sameBytes}
 use Rattle.terms.specs.declared.items.Node.{Node}
 use Rattle.terms.specs.declared.items.Atom.{Atom}
 use Rattle.stores.specs.Sentences.{Sentence}
 use Rattle.stores.specs.Refusals.{Limits}
+use Rattle.names.specs.Numbers.{number, met}
 use Rattle.words.specs.Words as words
 use Rattle.words.specs.Words.{Sign, Token}
 use Rattle.words.specs.Texts.{Words, end-at, fault-at, words-of}
@@ -20,16 +20,6 @@ use Rattle.grammar.specs.Loading.{load}
 pub record Names : Type 0 where
   pub nodes : List (List ℕ)
   pub atoms : List (List ℕ)
-
--- the number of a name: its place among the names, or the place behind them all
-abbrev pub number : List (List ℕ) → List ℕ → ℕ
-number [] x = 0
-number (y ∷ ys) x = cond (sameBytes y x) 0 (suc (number ys x))
-
--- the names with one more, unless it is there
-abbrev pub met : List (List ℕ) → List ℕ → List (List ℕ)
-met [] x = x ∷ []
-met (y ∷ ys) x = cond (sameBytes y x) (y ∷ ys) (y ∷ met ys x)
 
 abbrev pub sign-word : Sign → Word
 sign-word Sign.less = Less

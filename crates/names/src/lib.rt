@@ -12,13 +12,16 @@ use part::Part;
 use std::alloc::AllocError;
 use std::alloc::Global;
 
+pub mod numbering;
 mod part;
 mod table;
+mod tables;
 
 pub use part::NoNumber;
 pub use part::NoNumberDebug;
 pub use part::NoNumberPartialEq;
 pub use table::NameTable;
+pub use tables::Names;
 
 const NAME_BYTES: usize = 32;
 

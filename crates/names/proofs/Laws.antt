@@ -144,7 +144,7 @@ met-new (y ∷ ys) x h = go (sameBytes y x) h (met-new ys x)
     go true h f = absurd (omega arith)
     go false h f = ap (λ l. y ∷ l) (f (omega arith))
 
-number-most : (ys : List (List ℕ)) (x : List ℕ) → number ys x ≤ length ys
+pub number-most : (ys : List (List ℕ)) (x : List ℕ) → number ys x ≤ length ys
 number-most [] x = omega arith
 number-most (y ∷ ys) x = go (sameBytes y x) (number-most ys x)
   where

@@ -1,0 +1,5 @@
+// Readers of terms: a text's words, one ahead, into items.
+pub mod ahead;
+pub mod faults;
+pub mod parser;
+pub mod word;

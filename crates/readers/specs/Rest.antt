@@ -293,3 +293,22 @@ abbrev pub Goes-side : Bool → Stream → Names → List Item → Result Ended 
 Goes-side r S F out (Ok Here) S′ F′ out′ = Through-side r S F out S′ F′ out′
 Goes-side r S F out (Ok (NextEquation m p)) S′ F′ out′ = Through-next r S F out m p S′ F′ out′
 Goes-side r S F out (Err e) S′ F′ out′ = (l : Limits) (h : Head) → gives l S F (side h r ready outside done) ≡ rejected (number e) (place e)
+
+-- The same of a parser and the names, before and after.
+abbrev pub words-left : NameTables → Parser → ℕ
+words-left n p = size (rest (names-of n) p)
+
+abbrev pub Reads-terms : ℕ → Phase → NameTables → Parser → List Item → Result (Unit {0}) GrammarFault → NameTables → Parser → List Item → Type 0
+Reads-terms left ph n p out r n′ p′ out′ =
+    Goes left ph (rest (names-of n) p) (final (names-of n) p) out r (rest (names-of n′) p′) (final (names-of n′) p′) out′
+
+abbrev pub Reads-path : ℕ → Quoting → Option Node → NameTables → Parser → List Item → Result (Unit {0}) GrammarFault → NameTables → Parser → List Item → Type 0
+Reads-path left q m n p out r n′ p′ out′ =
+    Goes-path left q m (p .place) (rest (names-of n) p) (final (names-of n) p) out r (rest (names-of n′) p′) (final (names-of n′) p′) out′
+
+abbrev pub Reads-end : NameTables → Parser → Result (Unit {0}) GrammarFault → NameTables → Parser → Type 0
+Reads-end n p r n′ p′ = Goes-end (rest (names-of n) p) (final (names-of n) p) r (rest (names-of n′) p′) (final (names-of n′) p′)
+
+abbrev pub Reads-side : Bool → NameTables → Parser → List Item → Result Ended GrammarFault → NameTables → Parser → List Item → Type 0
+Reads-side b n p out r n′ p′ out′ =
+    Goes-side b (rest (names-of n) p) (final (names-of n) p) out r (rest (names-of n′) p′) (final (names-of n′) p′) out′

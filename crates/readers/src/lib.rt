@@ -2,4 +2,5 @@
 pub mod ahead;
 pub mod faults;
 pub mod parser;
+pub mod reading;
 pub mod word;

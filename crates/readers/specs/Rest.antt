@@ -14,7 +14,8 @@ use Rattle.terms.specs.declared.items.Item.{Item}
 use Rattle.terms.specs.declared.items.Quoting.{Quoting}
 use Rattle.terms.specs.declared.items.Quoting.the-variants.{Plain as plain, Quoted as quoted}
 use Rattle.terms.specs.Limits.{nesting-limit}
-use Rattle.terms.specs.Terms.{Terms, done, path, flat}
+use Rattle.terms.specs.Terms.{Terms, done, path, flat, nesting}
+use Rattle.terms.specs.Maps.{every, item-in-range}
 use Rattle.stores.specs.Refusals as stores
 use Rattle.stores.specs.Refusals.{Limits}
 use Rattle.names.specs.declared.tables.Names.{Names as NameTables}
@@ -237,6 +238,8 @@ starts (w.Broken r) = false
 pub record Through (left : ℕ) (ph : Phase) (S : Stream) (F : Names) (out : List Item) (S′ : Stream) (F′ : Names) (out′ : List Item) : Type 0 where
   pub terms : Terms
   pub items : out′ ≡ out ++ flat terms
+  pub in-range : every item-in-range (flat terms) ≡ true
+  pub nests : nesting terms ≤ left
   pub comes : (l : Limits) (h : Head) (r : Bool) (f : Frames) (b : Terms) → open-paths f + left ≡ nesting-limit → gives l S F (side h r ph f b) ≡ gives l S′ F′ (side h r ready f (then b terms))
 
 abbrev pub Goes : ℕ → Phase → Stream → Names → List Item → Result (Unit {0}) GrammarFault → Stream → Names → List Item → Type 0
@@ -259,6 +262,8 @@ behind h r quoted n p i f b = side h r ready f (then b (path quoted n i done))
 pub record Through-path (left : ℕ) (q : Quoting) (n : Option Node) (p : ℕ) (S : Stream) (F : Names) (out : List Item) (S′ : Stream) (F′ : Names) (out′ : List Item) : Type 0 where
   pub inside : Terms
   pub items : out′ ≡ out ++ flat (path q n inside done)
+  pub in-range : every item-in-range (flat (path q n inside done)) ≡ true
+  pub nests : suc (nesting inside) ≤ left
   pub comes : (l : Limits) (h : Head) (r : Bool) (f : Frames) (b : Terms) → open-paths f + left ≡ nesting-limit → gives l S F (side h r (entering q n) f b) ≡ gives l S′ F′ (behind h r q n p inside f b)
 
 abbrev pub Goes-path : ℕ → Quoting → Option Node → ℕ → Stream → Names → List Item → Result (Unit {0}) GrammarFault → Stream → Names → List Item → Type 0
@@ -279,6 +284,8 @@ is-next false k = is-equals k
 pub record Through-side (r : Bool) (S : Stream) (F : Names) (out : List Item) (S′ : Stream) (F′ : Names) (out′ : List Item) : Type 0 where
   pub terms : Terms
   pub items : out′ ≡ out ++ flat terms
+  pub in-range : every item-in-range (flat terms) ≡ true
+  pub nests : nesting terms ≤ nesting-limit
   pub comes : (l : Limits) (h : Head) → gives l S F (side h r ready outside done) ≡ gives l S′ F′ (side h r ready outside terms)
 
 -- and a path with its < at p, whose items are those from m on, and which == follows.
@@ -287,6 +294,9 @@ pub record Through-next (r : Bool) (S : Stream) (F : Names) (out : List Item) (m
   pub inside : Terms
   pub items : out′ ≡ (out ++ flat terms) ++ flat (path plain None inside done)
   pub mark : m ≡ length (out ++ flat terms)
+  pub in-range : every item-in-range (flat terms) ≡ true
+  pub nests : nesting terms ≤ nesting-limit
+  pub inside-in-range : every item-in-range (flat (path plain None inside done)) ≡ true
   pub comes : (l : Limits) (h : Head) → gives l S F (side h r ready outside done) ≡ gives l S′ F′ (side h r (closed p inside) outside terms)
 
 abbrev pub Goes-side : Bool → Stream → Names → List Item → Result Ended GrammarFault → Stream → Names → List Item → Type 0

@@ -7,6 +7,8 @@ ghost use Rattle.std.specs.Of.Vec.{vec-items, vec-len, vec-cap};
 ghost use Rattle.std.specs.Results.{isOk};
 ghost use Rattle.std.specs.declared.option.Option.the-variants.{Some, None};
 ghost use Rattle.terms.specs.declared.items.Quoting.the-variants.{Plain};
+ghost use Rattle.terms.specs.declared.items.Item.the-variants as item;
+ghost use Rattle.terms.specs.Maps.{node-in-range, item-in-range};
 ghost use Rattle.grammar.specs.Parsing.{ready, noded, coloned, quoting, quoted-node};
 ghost use Rattle.readers.specs.declared.faults.GrammarFault.the-variants as fault;
 ghost use Rattle.readers.specs.Rest.{is-less, is-colon, is-quote, is-greater, starts, is-next, words-left, Reads-terms, Reads-path, Reads-end, Reads-side};
@@ -88,6 +90,7 @@ fn path(
     requires room { ⌜ vec-len (now items) + words-left (now names) (now p) ≤ vec-cap (now items) ⌝ }
     requires starts { ⌜ is-less (now p .word) ≡ true ⌝ }
     requires depth { ⌜ left ≤ 4 ⌝ }
+    requires named { ⌜ item-in-range (item.Open «quoting» «node») ≡ true ⌝ }
     ensures goes { λ r. ⌜ Reads-path left «quoting» «node» (now (names .entry)) (now (p .entry)) (vec-items (now (items .entry))) r (now (names .exit)) (now (p .exit)) (vec-items (now (items .exit))) ⌝ }
     ensures less { λ r. ⌜ (isOk r ≡ true → words-left (now (names .exit)) (now (p .exit)) < words-left (now (names .entry)) (now (p .entry))) ⌝ }
     ensures room { λ r. ⌜ (isOk r ≡ true → vec-len (now (items .exit)) + words-left (now (names .exit)) (now (p .exit)) ≤ vec-cap (now (items .exit))) ⌝ }
@@ -206,6 +209,7 @@ fn after_node(
 ) -> Result<(), GrammarFault>
     requires room { ⌜ vec-len (now items) + words-left (now names) (now p) < vec-cap (now items) ⌝ }
     requires depth { ⌜ left ≤ 4 ⌝ }
+    requires named { ⌜ node-in-range «node» ≡ true ⌝ }
     ensures goes { λ r. ⌜ Reads-terms left (noded «node») (now (names .entry)) (now (p .entry)) (vec-items (now (items .entry))) r (now (names .exit)) (now (p .exit)) (vec-items (now (items .exit))) ⌝ }
     ensures less { λ r. ⌜ (isOk r ≡ true → words-left (now (names .exit)) (now (p .exit)) ≤ words-left (now (names .entry)) (now (p .entry))) ⌝ }
     ensures room { λ r. ⌜ (isOk r ≡ true → vec-len (now (items .exit)) + words-left (now (names .exit)) (now (p .exit)) ≤ vec-cap (now (items .exit))) ⌝ }
@@ -253,6 +257,7 @@ fn after_quoted_node(
 ) -> Result<(), GrammarFault>
     requires room { ⌜ vec-len (now items) + words-left (now names) (now p) < vec-cap (now items) ⌝ }
     requires depth { ⌜ left ≤ 4 ⌝ }
+    requires named { ⌜ node-in-range «node» ≡ true ⌝ }
     ensures goes { λ r. ⌜ Reads-terms left (quoted-node «node») (now (names .entry)) (now (p .entry)) (vec-items (now (items .entry))) r (now (names .exit)) (now (p .exit)) (vec-items (now (items .exit))) ⌝ }
     ensures less { λ r. ⌜ (isOk r ≡ true → words-left (now (names .exit)) (now (p .exit)) ≤ words-left (now (names .entry)) (now (p .entry))) ⌝ }
     ensures room { λ r. ⌜ (isOk r ≡ true → vec-len (now (items .exit)) + words-left (now (names .exit)) (now (p .exit)) ≤ vec-cap (now (items .exit))) ⌝ }
@@ -280,6 +285,7 @@ fn named_path(
 ) -> Result<(), GrammarFault>
     requires room { ⌜ vec-len (now items) + words-left (now names) (now p) ≤ vec-cap (now items) ⌝ }
     requires depth { ⌜ left ≤ 4 ⌝ }
+    requires named { ⌜ node-in-range «node» ≡ true ⌝ }
     ensures goes { λ r. ⌜ Reads-terms left (coloned «quoting» «node») (now (names .entry)) (now (p .entry)) (vec-items (now (items .entry))) r (now (names .exit)) (now (p .exit)) (vec-items (now (items .exit))) ⌝ }
     ensures less { λ r. ⌜ (isOk r ≡ true → words-left (now (names .exit)) (now (p .exit)) ≤ words-left (now (names .entry)) (now (p .entry))) ⌝ }
     ensures room { λ r. ⌜ (isOk r ≡ true → vec-len (now (items .exit)) + words-left (now (names .exit)) (now (p .exit)) ≤ vec-cap (now (items .exit))) ⌝ }

@@ -6,6 +6,7 @@ use Prim.Native.Nat.{_<_, _≤_}
 use borrow.Author.Needs.{needs}
 use Rattle.std.specs.Of.Vec.{vec-items}
 use Rattle.std.proofs.shelf.Results.{err-from-errBy}
+use Rattle.std.proofs.shelf.Tests.{and-from, lt-ltb}
 use Rattle.std.specs.declared.option.Option.the-variants.{Some, None}
 use Rattle.terms.specs.Terms.{Terms, flat, path, done, atom, node}
 use Rattle.terms.specs.declared.items.Quoting.the-variants.{Plain as plain, Quoted as quoted}
@@ -29,7 +30,7 @@ named-path-returns t c = record { goes = Turns.path-term _ _ _ _ _ _ _ _ _ _ _ (
 pub after-node-named-path-requires : need.after-node-named-path-requires
 after-node-named-path-requires t c κs =
     let z = Turns.one-colon (c .args .p .now .place) (c .args .p .now .word) _ _ (sym (c .if-is-colon .ensures tt)) (c .advance .ensures .size) in
-    (search needs, (omega arith, c .pre .depth))
+    (search needs, (omega arith, (c .pre .depth, c .pre .named)))
 
 pub after-node-returns-then-is-colon : need.after-node-returns-then-is-colon
 after-node-returns-then-is-colon t c =
@@ -43,7 +44,7 @@ after-node-returns-then-is-colon t c =
 
 pub after-node-returns-else-is-colon : need.after-node-returns-else-is-colon
 after-node-returns-else-is-colon t c = record {
-  goes = Turns.one-term _ _ (node plain (c .args .node) done) _ _ _ _ _ _ _ (Turns.stays _ _) (c .push-reserved .ensures .items) (λ l h r f b d. Runs.settled l h r _ f b _ _ _ (sym (c .if-is-colon .ensures tt)));
+  goes = Turns.one-term _ _ (node plain (c .args .node) done) (and-from _ _ (c .pre .named) refl) (omega arith) _ _ _ _ _ _ _ (Turns.stays _ _) (c .push-reserved .ensures .items) (λ l h r f b d. Runs.settled l h r _ f b _ _ _ (sym (c .if-is-colon .ensures tt)));
   less = λ e. omega arith;
   room = λ e. omega (arith, c .push-reserved .ensures .len, c .push-reserved .ensures .capacity);
 }
@@ -58,7 +59,7 @@ after-quote-returns-then-n-ge-NODES t c = record {
 pub after-quote-after-quoted-node-requires : need.after-quote-after-quoted-node-requires
 after-quote-after-quoted-node-requires t c κs =
     let z = Turns.one-node (c .args .p .now .place) (c .args .p .now .word) _ _ (c .in-Node .n) (sym (c .in-Node .is)) (c .advance .ensures .size) in
-    (search needs, (omega arith, c .pre .depth))
+    (search needs, (omega arith, (c .pre .depth, lt-ltb (c .in-Node .n .0) 1024 (omega arith))))
 
 pub after-quote-returns-in-Less : need.after-quote-returns-in-Less
 after-quote-returns-in-Less t c = record { goes = Turns.quoted-path-term _ _ _ _ _ _ _ _ _ (c .path .ensures .goes); less = λ e. omega (arith, c .path .ensures .less e); room = c .path .ensures .room }
@@ -83,7 +84,7 @@ after-quote-returns-in-rest t c = record {
 pub after-quoted-node-named-path-requires : need.after-quoted-node-named-path-requires
 after-quoted-node-named-path-requires t c κs =
     let z = Turns.one-colon (c .args .p .now .place) (c .args .p .now .word) _ _ (sym (c .if-is-colon .ensures tt)) (c .advance .ensures .size) in
-    (search needs, (omega arith, c .pre .depth))
+    (search needs, (omega arith, (c .pre .depth, c .pre .named)))
 
 pub after-quoted-node-returns-then-is-colon : need.after-quoted-node-returns-then-is-colon
 after-quoted-node-returns-then-is-colon t c =
@@ -107,7 +108,7 @@ after-quoted-node-returns t c =
     let q = sym (c .if-not-is-quote .ensures tt) in
     let z = Turns.one-quote (c .args .p .now .place) (c .args .p .now .word) _ _ q (c .advance-2 .ensures .size) in
     record {
-      goes = Turns.one-term _ _ (node quoted (c .args .node) done) _ _ _ _ _ _ _ (c .advance-2 .ensures .moves) (c .push-reserved .ensures .items) (λ l h r f b d. Runs.at-node-end l h r f b _ _ _ _ q d);
+      goes = Turns.one-term _ _ (node quoted (c .args .node) done) (and-from _ _ (c .pre .named) refl) (omega arith) _ _ _ _ _ _ _ (c .advance-2 .ensures .moves) (c .push-reserved .ensures .items) (λ l h r f b d. Runs.at-node-end l h r f b _ _ _ _ q d);
       less = λ e. omega arith;
       room = λ e. omega (arith, c .push-reserved .ensures .len, c .push-reserved .ensures .capacity);
     }
@@ -155,7 +156,7 @@ path-returns-in-Plain t c =
     let z₁ = Turns.one-less (c .args .p .now .place) (c .args .p .now .word) _ _ (c .pre .starts) (c .advance .ensures .size) in
     let z₂ = Turns.one-greater (c .terms .last .p .place) (c .terms .last .p .word) _ _ g (c .advance-2 .ensures .size) in
     record {
-      goes = Turns.path-plain (c .args .left) (c .args .quoting) (c .args .node) _ _ _ _ _ _ _ _ _ _ _ _ _ _ _ _ (c .pre .starts) (omega arith) (c .advance .ensures .moves) (told .goes) g (c .advance-2 .ensures .moves) (c .push-reserved .ensures .items) (c .push-reserved-2 .ensures .items) (c .in-Plain .is);
+      goes = Turns.path-plain (c .args .left) (c .args .quoting) (c .args .node) _ _ _ _ _ _ _ _ _ _ _ _ _ _ _ _ (c .pre .starts) (omega arith) (c .advance .ensures .moves) (told .goes) g (c .advance-2 .ensures .moves) (c .push-reserved .ensures .items) (c .push-reserved-2 .ensures .items) (c .pre .named) (c .in-Plain .is);
       less = λ e. omega (arith, told .less refl);
       room = λ e. omega (arith, told .room refl, c .push-reserved-2 .ensures .len, c .push-reserved-2 .ensures .capacity);
     }
@@ -167,7 +168,7 @@ path-returns-in-Quoted t c =
     let z₁ = Turns.one-less (c .args .p .now .place) (c .args .p .now .word) _ _ (c .pre .starts) (c .advance .ensures .size) in
     let z₂ = Turns.one-greater (c .terms .last .p .place) (c .terms .last .p .word) _ _ g (c .advance-2 .ensures .size) in
     record {
-      goes = Turns.path-quoted (c .args .left) (c .args .quoting) (c .args .node) _ _ _ _ _ _ _ _ _ _ _ _ _ _ _ _ (c .pre .starts) (omega arith) (c .advance .ensures .moves) (told .goes) g (c .advance-2 .ensures .moves) (c .push-reserved .ensures .items) (c .push-reserved-2 .ensures .items) _ _ _ (c .in-Quoted .is) (c .end-quote .ensures .goes);
+      goes = Turns.path-quoted (c .args .left) (c .args .quoting) (c .args .node) _ _ _ _ _ _ _ _ _ _ _ _ _ _ _ _ (c .pre .starts) (omega arith) (c .advance .ensures .moves) (told .goes) g (c .advance-2 .ensures .moves) (c .push-reserved .ensures .items) (c .push-reserved-2 .ensures .items) (c .pre .named) _ _ _ (c .in-Quoted .is) (c .end-quote .ensures .goes);
       less = λ e. omega (arith, told .less refl, c .end-quote .ensures .less e);
       room = λ e. omega (arith, told .room refl, c .end-quote .ensures .less e, c .push-reserved-2 .ensures .len, c .push-reserved-2 .ensures .capacity);
     }
@@ -197,7 +198,7 @@ pub unopened-returns-else-a-ge-ATOMS : need.unopened-returns-else-a-ge-ATOMS
 unopened-returns-else-a-ge-ATOMS t c =
     let z = Turns.one-start (c .args .p .now .place) (c .args .p .now .word) _ _ (c .pre .starts) (c .advance .ensures .size) in
     record {
-      goes = Turns.one-term _ _ (atom (c .in-Atom .a) done) _ _ _ _ _ _ _ (c .advance .ensures .moves) (c .push-reserved .ensures .items) (λ l h r f b d. Runs.at-atom l h r f b _ _ _ _ (sym (c .in-Atom .is)) (omega arith) d);
+      goes = Turns.one-term _ _ (atom (c .in-Atom .a) done) (and-from _ _ (lt-ltb (c .in-Atom .a .0) 4096 (omega arith)) refl) (omega arith) _ _ _ _ _ _ _ (c .advance .ensures .moves) (c .push-reserved .ensures .items) (λ l h r f b d. Runs.at-atom l h r f b _ _ _ _ (sym (c .in-Atom .is)) (omega arith) d);
       less = λ e. omega arith;
       room = λ e. omega (arith, c .push-reserved .ensures .len, c .push-reserved .ensures .capacity);
     }
@@ -212,7 +213,7 @@ unopened-returns-then-n-ge-NODES t c = record {
 pub unopened-after-node-requires : need.unopened-after-node-requires
 unopened-after-node-requires t c κs =
     let z = Turns.one-start (c .args .p .now .place) (c .args .p .now .word) _ _ (c .pre .starts) (c .advance-in-Node .ensures .size) in
-    (search needs, (omega arith, c .pre .depth))
+    (search needs, (omega arith, (c .pre .depth, lt-ltb (c .in-Node .n .0) 1024 (omega arith))))
 
 pub unopened-returns-else-n-ge-NODES : need.unopened-returns-else-n-ge-NODES
 unopened-returns-else-n-ge-NODES t c =

@@ -16,14 +16,7 @@ use Rattle.words.specs.declared.word.Word.the-variants as word
 use Rattle.words.specs.Words.{Token, token, Reading, read, refused, word-at}
 use Rattle.words.specs.Texts.{Words, end-at, onward, continued, words-within, words-from, words-of, Reads}
 use Rattle.words.specs.Tallies.{is-end, none, counted, tallied}
-use Rattle.words.proofs.Exact.{reads-next, reads-from, only-so, goes-on, word-bounds}
-
--- All words from a place on are the next one and all from behind it.
-next-words : (text : List ℕ) (at : ℕ) → at ≤ length text → words-from text at ≡ continued (word-at text at) (words-from text)
-next-words text at h =
-    let r : Reads at (drop at text) (continued (word-at text at) (words-from text)) =
-    reads-next text at (words-from text) (λ e more few. reads-from (suc (length text - e)) text e few (omega arith)) in
-    sym (only-so r (suc (length text - at)) text refl h (omega arith))
+use Rattle.words.proofs.Exact.{reads-from, goes-on, word-bounds, next-words}
 
 -- how far the count has come: what is still to be read completes it
 pub record Counting (text : List ℕ) (at : ℕ) (t : Tally) : Type 0 where

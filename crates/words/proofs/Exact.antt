@@ -8,12 +8,12 @@ use lib.Dec.{eqb}
 use lib.ListN.{length, take, drop, length-append, length-drop, take-append-drop}
 use lib.Seq.{length-take-le, drop-append-seam, drop-drop}
 use Rattle.words.specs.declared.faults.WordRefusal.{WordRefusal}
-use Rattle.words.specs.Words.{Token, Reading, read, refused, blank-byte, gap, word-from, word-at}
+use Rattle.words.specs.Words.{Token, Reading, read, refused, blank-byte, name-limit, gap, word-from, word-at}
 use Rattle.words.specs.Texts.{Gap, Spells, Faulty, Words, end-at, fault-at, onward, continued, words-within, words-from, words-of, word-count, Reads, Words-are-exact}
 use Rattle.words.proofs.Law.{Starts, Passed, gap-passes, gap-stops, gap-is, Spelt, Says, word-says, spelt-starts, faulty-starts, word-is, fault-is, append-nil}
 
 -- A word that bytes spell is not the text's end, and has a byte.
-spelt-some : {t : Token} {w rest : List ℕ} → Spells t w rest → (t ≡ Token.text-end → ⊥) × (1 ≤ length w)
+pub spelt-some : {t : Token} {w rest : List ℕ} → Spells t w rest → (t ≡ Token.text-end → ⊥) × (1 ≤ length w)
 spelt-some (Spells.mark m e) = (λ q. let z : _≡_ {A = ℕ} 0 1 = cc in omega arith, omega arith)
 spelt-some Spells.equals = (λ q. let z : _≡_ {A = ℕ} 0 1 = cc in omega arith, omega arith)
 spelt-some (Spells.single-equals r e) = (λ q. let z : _≡_ {A = ℕ} 0 1 = cc in omega arith, omega arith)
@@ -146,3 +146,28 @@ words-are-exact text =
       only = λ ws h. only-so h (suc (length text - 0)) text refl (omega arith) (omega arith);
       few = few-words r;
     }
+
+-- All words from a place on are the next one and all from behind it.
+pub next-words : (text : List ℕ) (at : ℕ) → at ≤ length text → words-from text at ≡ continued (word-at text at) (words-from text)
+next-words text at h =
+    let r : Reads at (drop at text) (continued (word-at text at) (words-from text)) =
+    reads-next text at (words-from text) (λ e more few. reads-from (suc (length text - e)) text e few (omega arith)) in
+    sym (only-so r (suc (length text - at)) text refl h (omega arith))
+
+-- A name is no longer than it may be.
+abbrev pub Short : Token → Type 0
+Short (Token.sign x) = Unit {0}
+Short (Token.node x) = length x ≤ name-limit
+Short (Token.atom x) = length x ≤ name-limit
+Short Token.text-end = Unit {0}
+
+spelt-short : {t : Token} {w rest : List ℕ} → Spells t w rest → Short t
+spelt-short (Spells.mark m e) = tt
+spelt-short Spells.equals = tt
+spelt-short (Spells.single-equals r e) = tt
+spelt-short (Spells.node r e h k d) = k
+spelt-short (Spells.atom r e h k d) = k
+spelt-short (Spells.quoted h k l) = l
+
+pub word-short : {at s e : ℕ} {t : Token} {bytes : List ℕ} {more : Words} → Reads at bytes (Words.word s t e more) → Short t
+word-short (Reads.word q p b gapped spells reads) = spelt-short spells

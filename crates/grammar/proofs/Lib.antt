@@ -1,0 +1,7 @@
+pub mod Spelled
+pub mod Sound
+pub mod Complete
+pub mod Steps
+pub mod Loads
+pub mod Misplaced
+pub mod Naming

@@ -1,0 +1,4 @@
+pub mod Numbering
+pub mod Runs
+pub mod Turns
+pub mod Sides

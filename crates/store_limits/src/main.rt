@@ -5,12 +5,8 @@ use addendum::keep::AddendumStore;
 use flat::FlatList;
 use flat::keep::FlatListKeeper;
 use flat::keep::FlatListStore;
-use pile::Pile;
-use pile::PileStore;
-use std::alloc::Global;
 use std::error::AnyError;
 use stores::Keeper;
-use stores::LentStore;
 use stores::Refusal;
 use stores::Store;
 use terms::Atom;
@@ -212,48 +208,6 @@ fn all<K: Keeper>(
     Ok(())
 }
 
-fn found<S: Store>(rt: &LibcRuntime, name: &str, store: &S) -> Result<(), AnyError> {
-    let path = [Atom(5), Atom(6), Atom(7)];
-    println!(
-        rt,
-        "{name}: finds {} {} {} {}, items {} {} {} {}",
-        length(store.find(Node(1), &path[0..0])),
-        length(store.find(Node(1), &path[0..2])),
-        length(store.find(Node(1), &path)),
-        length(store.find(Node(2), &path)),
-        atom(store.item(Node(1), &path[0..0], 0)),
-        atom(store.item(Node(1), &path[0..1], 0)),
-        atom(store.item(Node(1), &path[0..2], 0)),
-        atom(store.item(Node(1), &path, 0))
-    )?;
-    Ok(())
-}
-
-// A theory; an addendum to it, which has one of its pairs with an empty right side; and one more over both.
-fn piles(rt: &LibcRuntime, heap: Global) -> Result<(), AnyError> {
-    let path = [Atom(5), Atom(6), Atom(7)];
-    let mut theory = FlatList::new(heap)?;
-    let _ = theory.add(Node(1), &[], &[Item::Atom(Atom(10))]);
-    let _ = theory.add(Node(1), &path[0..1], &[Item::Atom(Atom(11))]);
-    let _ = theory.add(Node(1), &path[0..2], &[Item::Atom(Atom(12))]);
-    let mut addendum = Addendum::new(heap)?;
-    let _ = addendum.add(Node(1), &path[0..1], &[]);
-    let _ = addendum.add(Node(1), &path, &[Item::Atom(Atom(13))]);
-    let mut second = Addendum::new(heap)?;
-    let _ = second.add(Node(1), &[], &[Item::Atom(Atom(14))]);
-    found(rt, "theory", &theory)?;
-    let pile = Pile {
-        addendum,
-        below: &theory,
-    };
-    found(rt, "pile", &pile)?;
-    let piled = Pile {
-        addendum: second,
-        below: pile,
-    };
-    found(rt, "pile of a pile", &piled)
-}
-
 fn main(rt: LibcRuntime) -> Result<(), AnyError> {
     let heap = rt.alloc();
     println!(rt, "flat list")?;
@@ -265,5 +219,5 @@ fn main(rt: LibcRuntime) -> Result<(), AnyError> {
     println!(rt, "addendum")?;
     let mut addendum = Addendum::new(heap)?;
     all(&rt, &mut addendum, 256, 32, 32)?;
-    piles(&rt, heap)
+    Ok(())
 }

@@ -61,9 +61,10 @@ same-test m i n t l e = grind (arith, tells)
 min-same : (a b : ℕ) → b ≡ a → min a b ≡ a
 min-same a b e = omega arith
 
-pub smaller-limits : (s a i : ℕ) (r : Room) → r .sentences ≡ s → r .atoms ≡ a → r .items ≡ i → limits-of (smaller (record { sentences = s; atoms = a; items = i }) r) ≡ record { sentences = s; atoms = a; items = i }
-smaller-limits s a i r x y z =
+pub smaller-limits : (s a i : ℕ) (m r : Room) → m ≡ record { sentences = s; atoms = a; items = i } → r .sentences ≡ s → r .atoms ≡ a → r .items ≡ i
+    → limits-of (smaller m r) ≡ record { sentences = s; atoms = a; items = i }
+smaller-limits s a i m r e x y z =
     let p = min-same s (r .sentences) x in
     let q = min-same a (r .atoms) y in
     let t = min-same i (r .items) z in
-    λ j. record { sentences = p j; atoms = q j; items = t j }
+    ap (λ (k : Room). limits-of (smaller k r)) e ∙ (λ j. record { sentences = p j; atoms = q j; items = t j })

@@ -12,5 +12,5 @@ returns c =
     let s = c .args .self .now in
     let ss = held-in (s .list) in
     let t = sentence (c .args .node) (c .args .left .now) (c .args .right .now) in
-    let e = smaller-limits 256 1024 2048 (room-in (s .list)) (s .«sentences_room») (s .«atoms_room») (s .«items_room») in
+    let e = smaller-limits 256 1024 2048 (c .most .result) (room-in (s .list)) (c .most .ensures) (s .«sentences_room») (s .«atoms_room») (s .«items_room») in
     record { gives = c .add .ensures .gives ∙ ap (λ (k : Limits). answer (refusal k ss t)) e; keeps = c .add .ensures .held ∙ ap (λ (k : Limits). kept-after (refusal k ss t) ss t) e }

@@ -1,11 +1,10 @@
 // What can be done with any keeper and any store: filling one from a list of sentences, and reading a right side.
 ghost use mathlib.Core.Path.{_≡_};
-ghost use mathlib.Core.List.{List, []};
-ghost use Prim.Native.Nat.{ℕ, _+_, _<_, _≤_};
+ghost use mathlib.Core.List.{[]};
+ghost use Prim.Native.Nat.{_+_, _<_};
 ghost use lib.ListN.{length, take};
 ghost use Rattle.std.specs.declared.result.Result.the-variants.{Ok};
 ghost use Rattle.stores.specs.Items.{items-of};
-ghost use Rattle.stores.specs.Sentences.{map-of};
 ghost use Rattle.stores.specs.Refusals.{answer, or-else};
 ghost use Rattle.filling.specs.Fills.{sentences-of, first-refusal, kept-from, unless, Acceptable, Filled};
 ghost use Rattle.filling.specs.Answers.{Alike};

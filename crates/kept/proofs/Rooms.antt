@@ -1,12 +1,12 @@
 -- What a limit that is not passed says.
-use mathlib.Core.Path.{_≡_, refl, sym, ap, _∙_}
+use mathlib.Core.Path.{_≡_, sym, ap, _∙_}
 use mathlib.Core.Bool.{Bool, true, false, _||_}
 use mathlib.Core.List.{List}
 use Prim.Native.Nat.{ℕ, _+_, _-_, _<_, _≤_, min}
 use native.Mathlib.Omega.{arith}
 use lib.Dec.{ltb}
 use lib.ListN.{length}
-use Rattle.std.proofs.shelf.Tests.{or-parts, or-from, or-left, or-right, ltb-false, le-ltb, lt-ltb}
+use Rattle.std.proofs.shelf.Tests.{or-parts, or-left, or-right, ltb-false, le-ltb, lt-ltb}
 use Rattle.std.proofs.shelf.Ways.{tells}
 use Rattle.stores.specs.Sentences.{Sentence, atoms-in, items-in}
 use Rattle.kept.specs.declared.Room.{Room}
@@ -26,11 +26,6 @@ within k ss a i h =
       atoms = ltb-false (k .atoms) (atoms-in ss + a) (q .0);
       items = ltb-false (k .items) (items-in ss + i) (q .1);
     }
-
-pub not-passed : (k : Room) (ss : List Sentence) (a i : ℕ) → Within k ss a i → passes k ss a i ≡ false
-not-passed k ss a i w =
-    or-from (ltb (k .sentences) (length ss + 1)) (ltb (k .atoms) (atoms-in ss + a) || ltb (k .items) (items-in ss + i)) (le-ltb (k .sentences) (length ss + 1) (w .sentences))
-    (or-from (ltb (k .atoms) (atoms-in ss + a)) (ltb (k .items) (items-in ss + i)) (le-ltb (k .atoms) (atoms-in ss + a) (w .atoms)) (le-ltb (k .items) (items-in ss + i) (w .items)))
 
 -- what the smaller of two does not pass, neither does
 pub within-smaller : (j k : Room) (ss : List Sentence) (a i : ℕ) → Within (smaller j k) ss a i → Within k ss a i

@@ -1,7 +1,6 @@
-use mathlib.Core.Path.{_≡_, ap, _∙_}
+use mathlib.Core.Path.{ap, _∙_}
 use Rattle.stores.specs.Sentences.{sentence}
 use Rattle.stores.specs.Refusals.{Limits, refusal, answer, kept-after}
-use Rattle.kept.specs.Held.{limits-of, smaller}
 use Rattle.listed.specs.Held.{held-in, room-in}
 use Rattle.kept.proofs.Rooms.{smaller-limits}
 use Rattle.flat.specs.Held as own

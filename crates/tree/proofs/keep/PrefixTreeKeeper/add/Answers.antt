@@ -1,4 +1,4 @@
-use mathlib.Core.Path.{_≡_, sym, ap, _∙_}
+use mathlib.Core.Path.{sym, ap, _∙_}
 use mathlib.Core.Bool.{true, false, not}
 use Rattle.stores.specs.Sentences.{sentence}
 use Rattle.stores.specs.Refusals.{Limits, over}

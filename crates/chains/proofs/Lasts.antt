@@ -9,11 +9,11 @@ use Rattle.std.specs.declared.option.Option.{Option}
 use Rattle.std.specs.declared.option.Option.the-variants.{Some, None}
 use lib.Dec.{eqb}
 use lib.ListN.{set, replicate}
-use mathlib.Core.Logic.{⊎-elim, _≢_}
-use Rattle.std.proofs.shelf.Lists.{getD-set-same, getD-set-other, length-set, getD-append-left, getD-push, length-push, take-append-le, take-at, getD-replicate, length-replicate, getD-read}
+use mathlib.Core.Logic.{⊎-elim}
+use Rattle.std.proofs.shelf.Lists.{take-more, take-all, take-take, length-take-le, getD-take, getD-set-same, getD-set-other, length-set, getD-append-left, getD-push, length-push, take-append-le, take-at, getD-replicate, length-replicate, getD-read}
 use Rattle.std.proofs.shelf.Tests.{cases-eq, eq-eqb, ne-eqb, eqb-true}
 use Rattle.std.proofs.str.Laws.{order}
-use Rattle.chains.specs.Last.{or-here, last-by, earlier, up-to}
+use Rattle.chains.specs.Last.{or-here, last-by, up-to}
 
 never : {P : Type 0} → true ≡ false → P
 never e = absurd (let z : _≡_ {A = ℕ} 0 1 = cc in omega arith)
@@ -160,3 +160,51 @@ same-up None None e = refl
 same-up None (Some i) e = absurd (omega arith)
 same-up (Some i) None e = absurd (omega arith)
 same-up (Some i) (Some j) e = let z : i ≡ j = omega arith in ap Some z
+
+-- what `pop` leaves, from what its three writes leave
+module _ (bs : List ℕ) (n : ℕ) (few : n ≤ length bs) where
+  pub small-take : (w : ℕ) → Small w bs → Small w (take n bs)
+  small-take w h i l =
+      let k = length-take-le n bs few in
+      let a : i < n = omega arith in
+      subst (λ x. x < w) (sym (getD-take n bs i 0 a)) (h i (omega arith))
+
+  pub befores-take : (fs : List (Option ℕ)) → length fs ≡ length bs → Befores fs bs → Befores (take n fs) (take n bs)
+  befores-take fs s h i l =
+      let k = length-take-le n fs (omega arith) in
+      let a : i < n = omega arith in
+      let a′ : i ≤ n = omega arith in
+      getD-take n fs i None a ∙ h i (omega arith) ∙ ap (λ x. last-by (eqb x) (take i bs)) (sym (getD-take n bs i 0 a))
+      ∙ ap (last-by (eqb (getD (take n bs) i 0))) (sym (take-take i n bs a′))
+
+pub heads-pop : (hs : List (Option ℕ)) (bs : List ℕ) (n x : ℕ) (o : Option ℕ) → length bs ≡ n + 1 → x ≡ getD bs n 0 → x < length hs → o ≡ last-by (eqb x) (take n bs) → Heads hs bs → Heads (set hs x o) (take n bs)
+heads-pop hs bs n x o long ex l eo h b m =
+    let q = length-set hs x o in
+    let w : n < length bs = omega arith in
+    let whole : bs ≡ take n bs ++ x ∷ [] =
+    sym (take-all (n + 1) bs (omega arith)) ∙ take-more bs n 0 w ∙ ap (λ y. take n bs ++ y ∷ []) (sym ex) in
+    let p = last-push (eqb b) (take n bs) x in
+    ⊎-elim
+    (λ (e : b ≡ x). subst (λ y. getD (set hs x o) y None ≡ last-by (eqb y) (take n bs)) (sym e) (getD-set-same hs x o None l ∙ eo))
+    (λ (e : b ≡ x → ⊥).
+    getD-set-other hs x b o None e ∙ h b (omega arith) ∙ ap (last-by (eqb b)) whole ∙ p ∙ ap (λ t. cond t (Some (length (take n bs))) (last-by (eqb b) (take n bs))) (ne-eqb b x e))
+    (cases-eq b x)
+
+pub pop-leaves : (w : ℕ) (hs fs fs′ : List (Option ℕ)) (bs bs′ : List ℕ) (n x : ℕ) (o : Option ℕ)
+    → length hs ≡ w → length bs ≡ n + 1 → x ≡ getD bs n x → o ≡ getD fs n o → fs′ ≡ take n fs → bs′ ≡ take n bs → length fs ≡ length bs → Small w bs → Heads hs bs → Befores fs bs
+    → (length (set hs x o) ≡ w) × (length fs′ ≡ length bs′) × Small w bs′ × Heads (set hs x o) bs′ × Befores fs′ bs′
+pop-leaves w hs fs fs′ bs bs′ n x o ew long ex eo ef eb es sm h b =
+    let few : n ≤ length bs = omega arith in
+    let l : n < length bs = omega arith in
+    let k : n < length fs = omega arith in
+    let x0 : x ≡ getD bs n 0 = getD-read bs n x l ex 0 in
+    let o0 : o ≡ last-by (eqb x) (take n bs) = getD-read fs n o k eo None ∙ b n k ∙ ap (λ y. last-by (eqb y) (take n bs)) (sym x0) in
+    let inside = sm n l in
+    let p = ap length ef ∙ length-take-le n fs (omega arith) in
+    let q = ap length eb ∙ length-take-le n bs few in (
+      length-set hs x o ∙ ew,
+      omega arith,
+      subst (Small w) (sym eb) (small-take bs n few w sm),
+      subst (λ ys. Heads (set hs x o) ys) (sym eb) (heads-pop hs bs n x o long x0 (omega arith) o0 h),
+      subst (λ ys. Befores fs′ ys) (sym eb) (subst (λ ys. Befores ys (take n bs)) (sym ef) (befores-take bs n few fs es b)),
+    )

@@ -1,10 +1,10 @@
 // Reading along the chains, and adding to them.
 ghost use mathlib.Core.Path.{_≡_};
 ghost use mathlib.Core.Bool.{cond, _&&_};
-ghost use mathlib.Core.List.{List, _∷_, [], _++_};
-ghost use Prim.Native.Nat.{ℕ, _+_, _<_, _≤_};
+ghost use mathlib.Core.List.{_∷_, [], _++_};
+ghost use Prim.Native.Nat.{_+_, _-_, _<_};
 ghost use lib.Dec.{eqb, ltb};
-ghost use lib.ListN.{length};
+ghost use lib.ListN.{length, take};
 ghost use Rattle.std.specs.Vec.{made};
 ghost use Rattle.chains.specs.Last.{last-by, earlier};
 ghost use Rattle.chains.specs.Held.{buckets-in, width-in, room-in};
@@ -71,6 +71,32 @@ impl Chains {
         self.befores.push_reserved(before);
         self.buckets.push_reserved(bucket);
         true
+    }
+
+    // The entries without the last.
+    fn pop(&mut self)
+        requires { ⌜ 0 < length (buckets-in (now self)) ⌝ }
+        ensures entries { λ _. ⌜ buckets-in (now (self .exit)) ≡ take (length (buckets-in (now (self .entry))) - 1) (buckets-in (now (self .entry))) ⌝ }
+        ensures width { λ _. ⌜ width-in (now (self .exit)) ≡ width-in (now (self .entry)) ⌝ }
+        ensures room { λ _. ⌜ room-in (now (self .exit)) ≡ room-in (now (self .entry)) ⌝ }
+    {
+        let last = self.buckets.len() - 1;
+        let bucket = self.buckets[last];
+        let before = self.befores[last];
+        self.heads[bucket] = before;
+        self.befores.truncate(last);
+        self.buckets.truncate(last);
+    }
+
+    /// The first entries, as many as are wanted.
+    pub fn truncate(&mut self, entries: usize)
+        ensures entries { λ _. ⌜ buckets-in (now (self .exit)) ≡ take entries (buckets-in (now (self .entry))) ⌝ }
+        ensures width { λ _. ⌜ width-in (now (self .exit)) ≡ width-in (now (self .entry)) ⌝ }
+        ensures room { λ _. ⌜ room-in (now (self .exit)) ≡ room-in (now (self .entry)) ⌝ }
+    {
+        while self.buckets.len() > entries {
+            self.pop();
+        }
     }
 
     pub fn clear(&mut self)

@@ -2,8 +2,8 @@
 use mathlib.Core.Path.{_≡_, refl, sym, ap, subst, _∙_}
 use mathlib.Core.Bool.{Bool, true, false, cond, not, _&&_, _||_}
 use mathlib.Core.List.{List, [], _∷_, _++_}
-use mathlib.Core.Logic.{_↔_, ⊎-elim}
-use Prim.Native.Nat.{ℕ, _+_, _<_, _≤_}
+use mathlib.Core.Logic.{_↔_}
+use Prim.Native.Nat.{ℕ, _+_, _≤_}
 use native.Mathlib.Omega.{arith}
 use lib.Dec.{ltb}
 use lib.ListN.{length}
@@ -11,11 +11,9 @@ use Rattle.std.specs.Options.{isSome}
 use Rattle.std.specs.declared.option.Option.{Option}
 use Rattle.std.specs.declared.option.Option.the-variants.{Some, None}
 use Rattle.std.specs.declared.result.Result.{Result}
-use Rattle.std.specs.declared.result.Result.the-variants.{Ok, Err}
+use Rattle.std.specs.declared.result.Result.the-variants.{Ok}
 use Rattle.std.proofs.shelf.Lists.{length-push}
-use Rattle.std.proofs.shelf.Tests.{and-parts, and-from, not-true, or-parts, or-from, ltb-false, le-ltb, cases-bool}
-use Rattle.terms.specs.declared.items.Node.{Node}
-use Rattle.terms.specs.declared.items.Atom.{Atom}
+use Rattle.std.proofs.shelf.Tests.{and-parts, and-from, not-true, or-parts, or-from, ltb-false, le-ltb}
 use Rattle.terms.specs.Terms.{Terms, terms-of}
 use Rattle.terms.specs.Maps.{Map, every}
 use Rattle.stores.specs.declared.refusals.Refusal.{Refusal}

@@ -1,13 +1,12 @@
 // What can be done with any keeper and any store: filling one from a list of sentences, and reading a right side.
 ghost use mathlib.Core.Path.{_≡_};
-ghost use mathlib.Core.List.{List, []};
-ghost use Prim.Native.Nat.{ℕ, _+_, _<_, _≤_};
+ghost use mathlib.Core.List.{[]};
+ghost use Prim.Native.Nat.{_+_, _<_};
 ghost use lib.ListN.{length, take};
 ghost use Rattle.std.specs.declared.result.Result.the-variants.{Ok};
 ghost use Rattle.stores.specs.Items.{items-of};
-ghost use Rattle.stores.specs.Sentences.{map-of};
-ghost use Rattle.stores.specs.Refusals.{answer};
-ghost use Rattle.filling.specs.Fills.{sentences-of, first-refusal, kept-from, Acceptable, Filled};
+ghost use Rattle.stores.specs.Refusals.{answer, or-else};
+ghost use Rattle.filling.specs.Fills.{sentences-of, first-refusal, kept-from, unless, Acceptable, Filled};
 ghost use Rattle.filling.specs.Answers.{Alike};
 use stores::Keeper;
 use stores::Refusal;
@@ -42,7 +41,10 @@ pub fn fill_both<K: Keeper, L: Keeper>(
     second: &mut L,
     sentences: &[Given],
 ) -> Result<(), Refusal>
-    ensures { λ r. ⌜ (r ≡ Ok tt → Alike (K·Store .means (now (first .exit)) .map) (L·Store .means (now (second .exit)) .map)) ⌝ }
+    ensures gives { λ r. ⌜ r ≡ answer (or-else (first-refusal (K·Keeper .limits) [] (sentences-of (now (sentences .entry)))) (first-refusal (L·Keeper .limits) [] (sentences-of (now (sentences .entry))))) ⌝ }
+    ensures first { λ r. ⌜ K·Keeper .kept (now (first .exit)) ≡ kept-from (K·Keeper .limits) [] (sentences-of (now (sentences .entry))) ⌝ }
+    ensures second { λ r. ⌜ L·Keeper .kept (now (second .exit)) ≡ unless (first-refusal (K·Keeper .limits) [] (sentences-of (now (sentences .entry)))) (L·Keeper .kept (now (second .entry))) (kept-from (L·Keeper .limits) [] (sentences-of (now (sentences .entry)))) ⌝ }
+    ensures alike { λ r. ⌜ (r ≡ Ok tt → Alike (K·Store .means (now (first .exit)) .map) (L·Store .means (now (second .exit)) .map)) ⌝ }
 {
     if let Err(refusal) = fill(first, sentences) {
         return Err(refusal);

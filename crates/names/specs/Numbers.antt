@@ -1,5 +1,5 @@
 -- Names numbered from 0 in the order in which they are met.
-use mathlib.Core.Bool.{Bool, cond, _&&_}
+use mathlib.Core.Bool.{Bool, false, cond, _&&_}
 use mathlib.Core.List.{List, [], _∷_}
 use Prim.Native.Nat.{ℕ, zero, suc}
 use lib.Dec.{leb, ltb}
@@ -41,3 +41,9 @@ number-or-none limit names x = cond (takes limit names x) (Ok (number names x)) 
 
 abbrev pub names-after : ℕ → List (List ℕ) → List ℕ → List (List ℕ)
 names-after limit names x = cond (takes limit names x) (met names x) names
+
+-- whether a name is the one with a number
+abbrev pub is-at : List (List ℕ) → ℕ → List ℕ → Bool
+is-at [] k x = false
+is-at (y ∷ ys) zero x = sameBytes y x
+is-at (y ∷ ys) (suc k) x = is-at ys k x

@@ -1,5 +1,6 @@
 // Names and their numbers.
 ghost use mathlib.Core.Path.{_≡_};
+ghost use mathlib.Core.Bool.{true};
 ghost use mathlib.Core.List.{List, []};
 ghost use Prim.Native.Nat.{ℕ, _<_};
 ghost use lib.ListN.{length, take, getD};
@@ -8,6 +9,10 @@ ghost use Rattle.std.specs.Options.{mapped};
 ghost use Rattle.std.specs.Vec.{made};
 ghost use Rattle.names.specs.Numbers.{number, name-at, number-or-none, names-after};
 ghost use Rattle.names.specs.Held.{names-in, limit-of};
+ghost use Rattle.names.specs.Distinct.{distinct};
+ghost use Rattle.names.specs.Hash.{mix, bucket-of};
+ghost use Rattle.names.specs.Numbers.{is-at};
+use chains::Chains;
 use part::Part;
 use std::alloc::AllocError;
 use std::alloc::Global;
@@ -25,6 +30,28 @@ pub use tables::Names;
 
 const NAME_BYTES: usize = 32;
 
+const BUCKETS: usize = 4096;
+
+fn mixed_with(hash: usize, byte: u8) -> usize
+    requires { ⌜ hash < 4096 ⌝ }
+    ensures small { λ r. ⌜ r < 4096 ⌝ }
+    ensures is { λ r. ⌜ r ≡ mix hash byte ⌝ }
+{
+    (hash * 31 + byte as usize) % BUCKETS
+}
+
+// The bucket of a name.
+fn bucket_of(name: &[u8]) -> usize
+    ensures small { λ r. ⌜ r < 4096 ⌝ }
+    ensures is { λ r. ⌜ r ≡ bucket-of (now (name .entry)) ⌝ }
+{
+    let mut hash: usize = 0;
+    for b in name {
+        hash = mixed_with(hash, *b);
+    }
+    hash
+}
+
 impl NameTable {
     /// No name, with memory for as many as there may be.
     pub fn new(heap: Global, limit: u16) -> Result<NameTable, AllocError>
@@ -33,15 +60,19 @@ impl NameTable {
         let limit = limit as usize;
         let bytes = Vec::with_capacity(heap, NAME_BYTES * limit)?;
         let parts = Vec::with_capacity(heap, limit)?;
+        let chains = Chains::new(heap, BUCKETS, limit)?;
         Ok(NameTable {
             limit,
             bytes,
             parts,
+            chains,
         })
     }
 
+    /// How many names there are; none stands twice.
     pub fn len(&self) -> usize
-        ensures { λ r. ⌜ r ≡ length (names-in (now (self .entry))) ⌝ }
+        ensures count { λ r. ⌜ r ≡ length (names-in (now (self .entry))) ⌝ }
+        ensures apart { λ r. ⌜ distinct (names-in (now (self .entry))) ≡ true ⌝ }
     {
         self.parts.len()
     }
@@ -67,17 +98,28 @@ impl NameTable {
         }
     }
 
+    fn is_name(&self, k: usize, name: &[u8]) -> bool
+        ensures { λ r. ⌜ r ≡ is-at (names-in (now (self .entry))) k (now (name .entry)) ⌝ }
+    {
+        if k < self.parts.len() {
+            self.part(k) == name
+        } else {
+            false
+        }
+    }
+
     /// The number of a name, or the one that it would get.
     pub fn number(&self, name: &[u8]) -> usize
         ensures { λ r. ⌜ r ≡ number (names-in (now (self .entry))) (now (name .entry)) ⌝ }
     {
-        let n = self.parts.len();
-        for i in 0..n {
-            if self.part(i) == name {
-                return i;
+        let mut at = self.chains.last(bucket_of(name));
+        while let Some(k) = at {
+            if self.is_name(k, name) {
+                return k;
             }
+            at = self.chains.before(k);
         }
-        n
+        self.parts.len()
     }
 
     /// The number of a name, which is added where it is new.
@@ -100,6 +142,7 @@ impl NameTable {
         let len = name.len();
         let _ = self.bytes.extend_from_slice(name);
         self.parts.push_reserved(Part { start, len });
+        let _ = self.chains.push(bucket_of(name));
         Ok(n)
     }
 
@@ -112,6 +155,7 @@ impl NameTable {
             let start = self.parts[n].start;
             self.bytes.truncate(start);
             self.parts.truncate(n);
+            self.chains.truncate(n);
         }
     }
 }

@@ -1,37 +1,35 @@
 use mathlib.Core.Path.{_≡_, sym, ap, _∙_}
-use Prim.Native.Nat.{ℕ, _<_, _≤_}
-use native.Mathlib.Nat.{zero-add}
-use native.Mathlib.Omega.{arith}
-use lib.ListN.{length}
 use borrow.Author.Needs.{needs}
-use Rattle.std.specs.shelf.Text.{sameBytes}
+use lib.ListN.{length}
+use Rattle.std.specs.Of.Vec.{vec-len}
 use Rattle.std.proofs.shelf.Lists.{length-map}
-use Rattle.names.specs.Numbers.{number}
+use Rattle.chains.specs.Held.{buckets-in}
 use Rattle.names.specs.Held.{names-in}
-use Rattle.names.proofs.Laws.{number-here, number-on, number-none, eq-told}
+use Rattle.names.proofs.Apart.{walk-start, walk-hit, walk-next, walk-end}
 use Rattle.names.proofs.table.NameTable.number.Needs as need
 
-pub part-requires : need.part-requires
-part-requires c κs = search (needs, length-map)
+pub loop-at-holds : need.loop-at-holds
+loop-at-holds c =
+    let s = c .args .self .now in
+    walk-start (names-in s) (buckets-in (s .chains)) (c .args .name .now) (s .chained) (c .last-at .result) (c .bucket-of .result) (c .bucket-of .ensures .is) (c .last-at .ensures)
 
-pub loop-i-holds : need.loop-i-holds
-loop-i-holds c = zero-add (number (names-in (c .args .self .now)) (c .args .name .now))
+pub returns-then-is-name : need.returns-then-is-name
+returns-then-is-name c =
+    let s = c .args .self .now in
+    walk-hit (names-in s) (buckets-in (s .chains)) (c .args .name .now) (s .chained) (c .loop-at .at) (c .in-Some .k) (s .apart) (c .in-Some .is) (c .loop-at .inv) (c .if-is-name .ensures tt)
 
-pub returns-then-eq : need.returns-then-eq
-returns-then-eq c =
-    let h : c .loop-i .i < length (names-in (c .args .self .now)) = search (needs, length-map) in
-    let e = eq-told _ _ _ (c .eq .ensures) in
-    let z = number-here _ _ _ h (ap (λ x. sameBytes x (c .args .name .now)) (sym (c .part .ensures)) ∙ sym e ∙ c .if-eq .taken) in
-    omega (arith, z, c .loop-i .inv)
+pub loop-at-less : need.loop-at-less
+loop-at-less c =
+    let s = c .args .self .now in
+    walk-next (names-in s) (buckets-in (s .chains)) (c .args .name .now) (s .chained) (c .loop-at .at) (c .in-Some .k) (c .before-at .result) (c .in-Some .is) (c .loop-at .inv) (c .if-is-name .ensures tt) (c .before-at .ensures) .1
 
-pub loop-i-again : need.loop-i-again
-loop-i-again c =
-    let h : c .loop-i .i < length (names-in (c .args .self .now)) = search (needs, length-map) in
-    let e = eq-told _ _ _ (c .eq .ensures) in
-    number-on _ _ _ h (ap (λ x. sameBytes x (c .args .name .now)) (sym (c .part .ensures)) ∙ sym e ∙ c .if-eq .left) ∙ c .loop-i .inv
+pub loop-at-again : need.loop-at-again
+loop-at-again c =
+    let s = c .args .self .now in
+    walk-next (names-in s) (buckets-in (s .chains)) (c .args .name .now) (s .chained) (c .loop-at .at) (c .in-Some .k) (c .before-at .result) (c .in-Some .is) (c .loop-at .inv) (c .if-is-name .ensures tt) (c .before-at .ensures) .0
 
 pub returns : need.returns
 returns c =
-    let h : length (names-in (c .args .self .now)) ≤ c .loop-i .i = search (needs, length-map) in
-    let z = number-none (names-in (c .args .self .now)) (c .args .name .now) (c .loop-i .i) h in
-    omega (arith, z, c .loop-i .inv)
+    let s = c .args .self .now in
+    let l : vec-len (s .parts) ≡ length (names-in s) = search (needs, length-map) in
+    c .len .ensures ∙ l ∙ walk-end (names-in s) (buckets-in (s .chains)) (c .args .name .now) (s .chained) (c .loop-at .at) (s .apart) (c .in-rest .is) (c .loop-at .inv)

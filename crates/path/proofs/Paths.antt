@@ -51,7 +51,8 @@ pub filled : (s u more : List Atom) (i : ℕ) → u ≡ s ++ take i more → len
     → (u ≡ take path-limit (s ++ more)) × (path-limit < length (s ++ more))
 filled s u more i e l h =
     let w : s ++ more ≡ u ++ drop i more =
-        ap (λ x. s ++ x) (sym (take-append-drop i more)) ∙ (sym (append-assoc s (take i more) (drop i more)) ∙ ap (λ x. x ++ drop i more) (sym e)) in
-    let k : length (s ++ more) ≡ length u + (length more - i) = ap length w ∙ (length-append u (drop i more) ∙ ap (λ n. length u + n) (length-drop i more)) in
-    ( sym (ap (take path-limit) w ∙ (take-append-le path-limit u (drop i more) (omega arith) ∙ take-all path-limit u (omega arith)))
-    , omega arith )
+    ap (λ x. s ++ x) (sym (take-append-drop i more)) ∙ (sym (append-assoc s (take i more) (drop i more)) ∙ ap (λ x. x ++ drop i more) (sym e)) in
+    let k : length (s ++ more) ≡ length u + (length more - i) = ap length w ∙ (length-append u (drop i more) ∙ ap (λ n. length u + n) (length-drop i more)) in (
+      sym (ap (take path-limit) w ∙ (take-append-le path-limit u (drop i more) (omega arith) ∙ take-all path-limit u (omega arith))),
+      omega arith,
+    )

@@ -18,7 +18,10 @@ impl Path {
     pub fn new() -> Path
         ensures { λ r. ⌜ atoms-of r ≡ [] ⌝ }
     {
-        Path { atoms: [Atom(0); PATH_ATOMS], len: 0 }
+        Path {
+            atoms: [Atom(0); PATH_ATOMS],
+            len: 0,
+        }
     }
 
     pub fn len(&self) -> usize

@@ -1,0 +1,120 @@
+// An open sentence: how it goes on, and the questions that its terms ask.
+ghost use mathlib.Core.Path.{_≡_};
+ghost use Prim.Native.Nat.{ℕ, _+_, _<_, _≤_};
+ghost use lib.ListN.{length, drop};
+ghost use Rattle.terms.specs.Limits.{item-limit};
+ghost use Rattle.rules.specs.Table.{node-asks, path-asks};
+ghost use Rattle.machine.specs.Items.{onward};
+ghost use Rattle.path.specs.Atoms.{atoms-of};
+ghost use Rattle.engine.specs.Kept.{position-of, site-of, Extended, Asks};
+use crate::table::Inside;
+use crate::table::Open;
+use crate::table::Question;
+use path::Path;
+use terms::Atom;
+use terms::Node;
+use terms::Quoting;
+
+impl Open {
+    /// One item further.
+    pub(crate) fn move_on(&mut self)
+        requires { ⌜ now self .place < item-limit ⌝ }
+        ensures { λ _. ⌜ position-of (now (self .exit)) ≡ onward (position-of (now (self .entry))) ⌝ }
+    {
+        self.place += 1;
+    }
+
+    /// What the left path leaves of the question's path.
+    fn extension(&self) -> &[Atom]
+        ensures { λ r. ⌜ now r ≡ site-of (now (self .entry)) .extension ⌝ }
+    {
+        let path = self.at.path.as_slice();
+        &path[self.left..]
+    }
+
+    /// A path with the extension behind it, or none where both have over 32 atoms.
+    fn extended(&self, front: Path) -> Option<Path>
+        ensures { λ r. ⌜ Extended r (atoms-of front) (site-of (now (self .entry)) .extension) ⌝ }
+    {
+        let mut path = front;
+        if path.extend(self.extension()) {
+            Some(path)
+        } else {
+            None
+        }
+    }
+
+    /// The question that a node asks, or none if its path has over 32 atoms.
+    pub(crate) fn node_asks(&self, quoting: Quoting, node: Node) -> Option<Question>
+        ensures { λ r. ⌜ Asks r (node-asks (site-of (now (self .entry))) quoting node) ⌝ }
+    {
+        match quoting {
+            Quoting::Plain => {
+                let Question {
+                    node: _,
+                    path,
+                    global_node,
+                    global_path,
+                } = self.at;
+                Some(Question {
+                    node,
+                    path,
+                    global_node,
+                    global_path,
+                })
+            }
+            Quoting::Quoted => match self.extended(self.at.global_path) {
+                Some(path) => Some(Question {
+                    node,
+                    path,
+                    global_node: node,
+                    global_path: path,
+                }),
+                None => None,
+            },
+        }
+    }
+
+    /// The question that a path asks, or none if its path has over 32 atoms.
+    pub(crate) fn path_asks(&self, inside: Inside) -> Option<Question>
+        ensures { λ r. ⌜ Asks r (path-asks (site-of (now (self .entry))) (inside .quoting) (inside .node) (atoms-of (inside .atoms))) ⌝ }
+    {
+        let Some(path) = self.extended(inside.atoms) else {
+            return None;
+        };
+        let Question {
+            node: here,
+            path: _,
+            global_node,
+            global_path,
+        } = self.at;
+        Some(
+            match (inside.quoting, inside.node) {
+                (Quoting::Plain, Some(node)) => Question {
+                    node,
+                    path,
+                    global_node,
+                    global_path,
+                },
+                (Quoting::Plain, None) => Question {
+                    node: here,
+                    path,
+                    global_node,
+                    global_path,
+                },
+                (Quoting::Quoted, Some(node)) => Question {
+                    node,
+                    path,
+                    global_node: node,
+                    global_path: path,
+                },
+                (Quoting::Quoted, None) => Question {
+                    node: global_node,
+                    path,
+                    global_node,
+                    global_path: path,
+                },
+            },
+        )
+    }
+}

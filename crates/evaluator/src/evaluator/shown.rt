@@ -1,0 +1,55 @@
+// What an evaluator shows.
+ghost use mathlib.Core.Path.{_≡_};
+ghost use Rattle.evaluator.specs.Shown.{outcome-of, atom-of};
+ghost use Rattle.evaluator.specs.Holds.{shown-by};
+ghost use Rattle.evaluator.specs.Promise.{Shows-rightly};
+use super::Evaluator;
+use crate::answers::Outcome;
+use engine::Phase;
+use stores::Store;
+use terms::Atom;
+
+impl<S: Store> Evaluator<S> {
+    /// Idle, unfinished, or the outcome of the question held.
+    pub fn outcome(&self) -> Outcome
+        ensures shown { λ r. ⌜ r ≡ outcome-of (shown-by (now (self .entry))) ⌝ }
+        ensures right { λ _. ⌜ Shows-rightly (S·Store .means) (now (self .entry)) ⌝ }
+    {
+        let Some(_) = self.question else {
+            return Outcome::Idle;
+        };
+        match self.machine.phase() {
+            Phase::Asks => Outcome::Unfinished,
+            Phase::Works => Outcome::Unfinished,
+            Phase::Has => Outcome::Value,
+            Phase::Stops(stop) => Outcome::Stopped(stop),
+        }
+    }
+
+    /// The steps taken for the question held.
+    pub fn steps(&self) -> u32
+        ensures shown { λ r. ⌜ r ≡ now (self .entry) .steps ⌝ }
+        ensures right { λ _. ⌜ Shows-rightly (S·Store .means) (now (self .entry)) ⌝ }
+    {
+        self.steps
+    }
+
+    /// The atom at a place of the value, or none past its end; without a value none.
+    pub fn atom(&self, place: usize) -> Option<Atom>
+        ensures shown { λ r. ⌜ r ≡ atom-of (shown-by (now (self .entry))) place ⌝ }
+        ensures right { λ _. ⌜ Shows-rightly (S·Store .means) (now (self .entry)) ⌝ }
+    {
+        let Some(_) = self.question else {
+            return None;
+        };
+        let Phase::Has = self.machine.phase() else {
+            return None;
+        };
+        let value = self.machine.value();
+        if place < value.len() {
+            Some(value[place])
+        } else {
+            None
+        }
+    }
+}

@@ -3,6 +3,7 @@ use mathlib.Core.Path.{_≡_}
 use mathlib.Core.Bool.{true, false}
 use mathlib.Core.List.{List}
 use Prim.Native.Nat.{ℕ}
+use denote.Ref.{RefT}
 use Rattle.std.specs.declared.option.Option.{Option}
 use Rattle.std.specs.declared.option.Option.the-variants.{Some, None}
 use Rattle.std.specs.Of.Vec.{vec-items}
@@ -34,6 +35,15 @@ holding (Some q) granted = Some (record { question = question-of q; granted = gr
 
 abbrev pub holding-of : {S : Type 0} → Evaluator S → Option Holding
 holding-of e = holding (e .question) (e .granted)
+
+-- the question alone, as it is lent and as it is held
+abbrev pub question-lent : Option (RefT Kept) → Option Question
+question-lent None = None
+question-lent (Some q) = Some (question-of (q .now))
+
+abbrev pub question-in : Option Holding → Option Question
+question-in None = None
+question-in (Some h) = Some (h .question)
 
 -- what is shown; while idle, none
 abbrev pub shown-in : Option Kept → Phase → List Atom → Option Shown

@@ -1,11 +1,12 @@
 // What an evaluator shows.
 ghost use mathlib.Core.Path.{_≡_};
 ghost use Rattle.evaluator.specs.Shown.{outcome-of, atom-of};
-ghost use Rattle.evaluator.specs.Holds.{shown-by};
+ghost use Rattle.evaluator.specs.Holds.{holding-of, question-lent, question-in, shown-by};
 ghost use Rattle.evaluator.specs.Promise.{Shows-rightly};
 use super::Evaluator;
 use crate::answers::Outcome;
 use engine::Phase;
+use engine::Question;
 use stores::Store;
 use terms::Atom;
 
@@ -23,6 +24,17 @@ impl<S: Store> Evaluator<S> {
             Phase::Works => Outcome::Unfinished,
             Phase::Has => Outcome::Value,
             Phase::Stops(stop) => Outcome::Stopped(stop),
+        }
+    }
+
+    /// The question held, or none while idle.
+    pub fn question(&self) -> Option<&Question>
+        ensures shown { λ r. ⌜ question-lent r ≡ question-in (holding-of (now (self .entry))) ⌝ }
+        ensures right { λ _. ⌜ Shows-rightly (S·Store .means) (now (self .entry)) ⌝ }
+    {
+        match &self.question {
+            Some(question) => Some(question),
+            None => None,
         }
     }
 

@@ -1,0 +1,4 @@
+pub mod Adds
+pub mod Looks
+pub mod Firsts
+pub mod Rooms

@@ -1,0 +1,4 @@
+pub mod Parts
+pub mod Held
+pub mod Firsts
+pub mod Meanings

@@ -1,0 +1,3 @@
+pub mod Childs
+pub mod Grows
+pub mod Steps

@@ -1,4 +1,6 @@
 // What an evaluator is called to do, and what it answers.
+ghost use mathlib.Core.Path.{_≡_};
+ghost use Rattle.evaluator.specs.Calls.{number};
 use engine::Stop;
 use terms::Atom;
 use terms::Node;
@@ -21,6 +23,18 @@ pub enum Refusal {
     Unfinished,
     /// No question is held.
     Idle,
+}
+
+impl Refusal {
+    pub fn number(self) -> u8
+        ensures { λ r. ⌜ r ≡ number self ⌝ }
+    {
+        match self {
+            Refusal::OutOfRange => 12,
+            Refusal::Unfinished => 13,
+            Refusal::Idle => 14,
+        }
+    }
 }
 
 /// A call, as a value.

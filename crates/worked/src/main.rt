@@ -1,4 +1,5 @@
 // Evaluates the worked theory over each store, one granted step at a time, and prints what is shown; then the limits and the refusals.
+mod calls;
 mod limits;
 mod print;
 mod theory;
@@ -18,7 +19,6 @@ use pile::PileStore;
 use std::error::AnyError;
 use stores::LentStore;
 use stores::Store;
-use terms::Atom;
 use terms::Node;
 use tree::PrefixTree;
 use tree::keep::PrefixTreeKeeper;
@@ -63,67 +63,51 @@ fn ask_at_once<S: Store + Drop>(
 }
 
 /// Which calls are refused, by number, and 0 where none is.
-fn refusals<S: Store + Drop>(rt: &LibcRuntime, store: S) -> Result<(), AnyError> {
+fn call_all<S: Store + Drop>(rt: &LibcRuntime, store: S) -> Result<(), AnyError> {
     let mut evaluator = Evaluator::new(rt.alloc(), store)?;
-    print::refusal(rt, "work while idle", evaluator.work(1))?;
-    print::refusal(rt, "give up while idle", evaluator.give_up())?;
-    print::refusal(rt, "begin at node 1024", evaluator.begin(Node(1024), &[]))?;
-    print::refusal(
-        rt,
-        "begin with atom 4096",
-        evaluator.begin(Node(0), &[Atom(4096)]),
-    )?;
-    print::refusal(
-        rt,
-        "begin with 33 atoms",
-        evaluator.begin(Node(0), &[Atom(2); 33]),
-    )?;
-    print::refusal(
-        rt,
-        "begin with 32 atoms",
-        evaluator.begin(Node(0), &[Atom(2); 32]),
-    )?;
-    print::refusal(rt, "begin while unfinished", evaluator.begin(Node(1), &[]))?;
-    print::refusal(
-        rt,
-        "begin at node 1024 while unfinished",
-        evaluator.begin(Node(1024), &[]),
-    )?;
-    print::refusal(rt, "work 0", evaluator.work(0))?;
-    print::refusal(rt, "give up", evaluator.give_up())?;
-    print::refusal(rt, "begin at Lamp", evaluator.begin(Node(1), &[Atom(2)]))?;
+    for c in calls::CALLS {
+        print::refusal(rt, c.title, evaluator.call(c.call))?;
+    }
     let requests = evaluator.work_counting(4).unwrap_or(0);
     println!(rt, "work 4: the store is asked {requests} times")?;
-    print::refusal(rt, "begin after the outcome", evaluator.begin(Node(1), &[]))
+    Ok(())
 }
 
-fn all(rt: &LibcRuntime) -> Result<(), AnyError> {
-    let mut list = FlatList::new(rt.alloc())?;
+/// The theory, over each store.
+fn worked(rt: &LibcRuntime, list: &mut FlatList) -> Result<(), AnyError> {
     let mut prefixes = PrefixTree::new(rt.alloc())?;
     let mut addendum = Addendum::new(rt.alloc())?;
-    print::added(rt, theory::add_nouns(&mut list))?;
-    print::added(rt, theory::add_trials(&mut list))?;
-    print::added(rt, theory::add_nouns(&mut prefixes))?;
-    print::added(rt, theory::add_trials(&mut prefixes))?;
-    print::added(rt, theory::add_change(&mut addendum))?;
-    ask_all(rt, "flat list", &list)?;
+    print::added(rt, theory::add_all(list, theory::THEORY))?;
+    print::added(rt, theory::add_all(&mut prefixes, theory::THEORY))?;
+    print::added(rt, theory::add_all(&mut addendum, theory::CHANGE))?;
+    ask_all(rt, "flat list", &*list)?;
     ask_all(rt, "prefix tree", &prefixes)?;
     ask_all(
         rt,
         "pile",
         Pile {
             addendum,
-            below: &list,
+            below: &*list,
         },
     )?;
-    refusals(rt, &list)?;
+    call_all(rt, &*list)
+}
+
+/// The limits of open sentences and of a value.
+fn limited(rt: &LibcRuntime, list: &mut FlatList) -> Result<(), AnyError> {
     list.clear();
-    print::added(rt, limits::add_chain(&mut list))?;
-    print::added(rt, limits::add_doubles(&mut list))?;
-    ask_at_once(rt, "96 nodes", &list, Node(1))?;
-    ask_at_once(rt, "97 nodes", &list, Node(0))?;
-    ask_at_once(rt, "256 atoms", &list, Node(200))?;
-    ask_at_once(rt, "257 atoms", &list, Node(199))
+    print::added(rt, limits::add_chain(list))?;
+    print::added(rt, limits::add_doubles(list))?;
+    ask_at_once(rt, "96 nodes", &*list, Node(1))?;
+    ask_at_once(rt, "97 nodes", &*list, Node(0))?;
+    ask_at_once(rt, "256 atoms", &*list, Node(200))?;
+    ask_at_once(rt, "257 atoms", &*list, Node(199))
+}
+
+fn all(rt: &LibcRuntime) -> Result<(), AnyError> {
+    let mut list = FlatList::new(rt.alloc())?;
+    worked(rt, &mut list)?;
+    limited(rt, &mut list)
 }
 
 fn main(rt: LibcRuntime) -> Result<(), AnyError> {

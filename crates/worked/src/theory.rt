@@ -108,13 +108,22 @@ const QUOTED_OPEN: Item = Item::Open(Quoting::Quoted, None);
 
 const CLOSE: Item = Item::Close;
 
-/// Word and the nouns that inherit from it.
-pub fn add_nouns<K: Keeper>(keeper: &mut K) -> Result<(), Refusal> {
-    keeper.add(WORD, &[CLASS], &[Item::Atom(NOUN)])?;
-    keeper.add(
-        WORD,
-        &[MANY],
-        &[
+pub struct Sentence {
+    node: Node,
+    left: &'static [Atom],
+    right: &'static [Item],
+}
+
+pub const THEORY: &[Sentence; 21] = &[
+    Sentence {
+        node: WORD,
+        left: &[CLASS],
+        right: &[Item::Atom(NOUN)],
+    },
+    Sentence {
+        node: WORD,
+        left: &[MANY],
+        right: &[
             QUOTED_OPEN,
             Item::Atom(STEM),
             CLOSE,
@@ -122,55 +131,120 @@ pub fn add_nouns<K: Keeper>(keeper: &mut K) -> Result<(), Refusal> {
             Item::Atom(ENDING),
             CLOSE,
         ],
-    )?;
-    keeper.add(WORD, &[ONE], &[QUOTED_OPEN, Item::Atom(STEM), CLOSE])?;
-    keeper.add(WORD, &[ENDING], &[Item::Atom(EN)])?;
-    keeper.add(LAMP, &[], &[Item::Node(Quoting::Plain, WORD)])?;
-    keeper.add(LAMP, &[STEM], &[Item::Atom(LAMP_STEM)])?;
-    keeper.add(CHILD, &[], &[Item::Node(Quoting::Plain, WORD)])?;
-    keeper.add(CHILD, &[STEM], &[Item::Atom(KIND)])?;
-    keeper.add(CHILD, &[ENDING], &[Item::Atom(ER)])?;
-    keeper.add(CHILD, &[MANY, OLD], &[Item::Node(Quoting::Quoted, LAMP)])
-}
-
-/// The nodes that try the rules out.
-pub fn add_trials<K: Keeper>(keeper: &mut K) -> Result<(), Refusal> {
-    keeper.add(ECHO, &[], &[])?;
-    keeper.add(ECHO, &[A], &[Item::Atom(A), OPEN, CLOSE])?;
-    keeper.add(ECHO, &[B], &[Item::Atom(B), OPEN, CLOSE])?;
-    keeper.add(TWICE, &[], &[Item::Node(Quoting::Quoted, ECHO)])?;
-    keeper.add(LOOP, &[], &[Item::Node(Quoting::Plain, LOOP)])?;
-    keeper.add(GROW, &[], &[OPEN, Item::Atom(X), CLOSE])?;
-    keeper.add(RELAY, &[], &[QUOTED_OPEN, Item::Atom(T), CLOSE])?;
-    keeper.add(
-        HERE,
-        &[S],
-        &[Item::Open(Quoting::Plain, Some(RELAY)), CLOSE],
-    )?;
-    keeper.add(
-        HERE,
-        &[T],
-        &[
+    },
+    Sentence {
+        node: WORD,
+        left: &[ONE],
+        right: &[QUOTED_OPEN, Item::Atom(STEM), CLOSE],
+    },
+    Sentence {
+        node: WORD,
+        left: &[ENDING],
+        right: &[Item::Atom(EN)],
+    },
+    Sentence {
+        node: LAMP,
+        left: &[],
+        right: &[Item::Node(Quoting::Plain, WORD)],
+    },
+    Sentence {
+        node: LAMP,
+        left: &[STEM],
+        right: &[Item::Atom(LAMP_STEM)],
+    },
+    Sentence {
+        node: CHILD,
+        left: &[],
+        right: &[Item::Node(Quoting::Plain, WORD)],
+    },
+    Sentence {
+        node: CHILD,
+        left: &[STEM],
+        right: &[Item::Atom(KIND)],
+    },
+    Sentence {
+        node: CHILD,
+        left: &[ENDING],
+        right: &[Item::Atom(ER)],
+    },
+    Sentence {
+        node: CHILD,
+        left: &[MANY, OLD],
+        right: &[Item::Node(Quoting::Quoted, LAMP)],
+    },
+    Sentence {
+        node: ECHO,
+        left: &[],
+        right: &[],
+    },
+    Sentence {
+        node: ECHO,
+        left: &[A],
+        right: &[Item::Atom(A), OPEN, CLOSE],
+    },
+    Sentence {
+        node: ECHO,
+        left: &[B],
+        right: &[Item::Atom(B), OPEN, CLOSE],
+    },
+    Sentence {
+        node: TWICE,
+        left: &[],
+        right: &[Item::Node(Quoting::Quoted, ECHO)],
+    },
+    Sentence {
+        node: LOOP,
+        left: &[],
+        right: &[Item::Node(Quoting::Plain, LOOP)],
+    },
+    Sentence {
+        node: GROW,
+        left: &[],
+        right: &[OPEN, Item::Atom(X), CLOSE],
+    },
+    Sentence {
+        node: RELAY,
+        left: &[],
+        right: &[QUOTED_OPEN, Item::Atom(T), CLOSE],
+    },
+    Sentence {
+        node: HERE,
+        left: &[S],
+        right: &[Item::Open(Quoting::Plain, Some(RELAY)), CLOSE],
+    },
+    Sentence {
+        node: HERE,
+        left: &[T],
+        right: &[
             Item::Open(Quoting::Quoted, Some(THERE)),
             Item::Atom(U),
             CLOSE,
         ],
-    )?;
-    keeper.add(
-        THERE,
-        &[U],
-        &[Item::Open(Quoting::Plain, Some(RELAY)), CLOSE],
-    )?;
-    keeper.add(THERE, &[T], &[Item::Atom(DONE)])
-}
+    },
+    Sentence {
+        node: THERE,
+        left: &[U],
+        right: &[Item::Open(Quoting::Plain, Some(RELAY)), CLOSE],
+    },
+    Sentence {
+        node: THERE,
+        left: &[T],
+        right: &[Item::Atom(DONE)],
+    },
+];
 
 /// Child: <many> == "<stem>" er.
-pub fn add_change<K: Keeper>(keeper: &mut K) -> Result<(), Refusal> {
-    keeper.add(
-        CHILD,
-        &[MANY],
-        &[QUOTED_OPEN, Item::Atom(STEM), CLOSE, Item::Atom(ER)],
-    )
+pub const CHANGE: &[Sentence; 1] = &[Sentence {
+    node: CHILD,
+    left: &[MANY],
+    right: &[QUOTED_OPEN, Item::Atom(STEM), CLOSE, Item::Atom(ER)],
+}];
+
+pub fn add_all<K: Keeper>(keeper: &mut K, sentences: &[Sentence]) -> Result<(), Refusal> {
+    for s in sentences {
+        keeper.add(s.node, s.left, s.right)?;
+    }
+    Ok(())
 }
 
 pub struct Asked {

@@ -1,5 +1,5 @@
 -- Steps that are granted, steps-taken one by one.
-use mathlib.Core.Path.{_≡_, refl, sym, ap, subst, _∙_}
+use mathlib.Core.Path.{_≡_, refl, sym, ap, _∙_}
 use Prim.Native.Nat.{ℕ, zero, suc, _+_, _-_, _≤_}
 use native.Mathlib.Omega.{arith}
 use Rattle.std.specs.Of.Vec.{vec-items}
@@ -7,7 +7,6 @@ use Rattle.terms.specs.Maps.{Map}
 use Rattle.machine.specs.Steps.{Open, State, next, after, step-of, steps-taken}
 use Rattle.machine.specs.Items.{meant, comes-to}
 use Rattle.machine.proofs.Steps.{steps-add-up, taken-none}
-use Rattle.engine.specs.declared.table.Question.{Question as Kept}
 use Rattle.engine.specs.declared.table.Phase.{Phase}
 use Rattle.engine.specs.declared.machine.Machine.{Machine}
 use Rattle.engine.specs.States.{parts}

@@ -1,11 +1,11 @@
 -- The last element of a row, and what a table and a hold are with it.
-use mathlib.Core.Path.{_≡_, refl, sym, ap, subst, _∙_}
+use mathlib.Core.Path.{_≡_, refl, sym, ap, _∙_}
 use mathlib.Core.Bool.{Bool, true, false, _||_}
-use mathlib.Core.List.{List, [], _∷_, _++_, map}
-use Prim.Native.Nat.{ℕ, zero, suc, _+_, _-_, _<_, _≤_}
+use mathlib.Core.List.{List, [], _∷_, _++_}
+use Prim.Native.Nat.{ℕ, zero, suc, _+_, _-_, _<_}
 use native.Mathlib.Omega.{arith}
 use lib.Dec.{leb}
-use lib.ListN.{length, take, drop, getD, set, length-take, length-set}
+use lib.ListN.{length, take, getD, set, length-set}
 use Rattle.std.specs.declared.option.Option.{Option}
 use Rattle.std.specs.declared.option.Option.the-variants.{Some, None}
 use Rattle.std.proofs.shelf.Lists.{take-all, take-more, take-more-set}
@@ -14,7 +14,7 @@ use Rattle.terms.specs.Limits.{path-limit, open-limit}
 use Rattle.rules.specs.Questions.{Question}
 use Rattle.rules.specs.Outcomes.{Stop}
 use Rattle.rules.specs.Evaluation.{among, same-question, barred}
-use Rattle.machine.specs.Steps.{Built, whole, inside, so-far, pose, allowed, asks}
+use Rattle.machine.specs.Steps.{Built, inside, so-far, pose, allowed, asks}
 use Rattle.machine.specs.Items.{Position, questions-at}
 use Rattle.path.specs.Atoms.{atoms-of}
 use Rattle.engine.specs.declared.table.Question.{Question as Kept}

@@ -1,12 +1,11 @@
 -- What an item and a look-up do to a machine, over a map within the limits.
 use mathlib.Core.Path.{_≡_, refl, sym, ap, subst, _∙_}
-use mathlib.Core.Bool.{Bool, true, false}
+use mathlib.Core.Bool.{true, false}
 use mathlib.Core.List.{List, [], _∷_, map}
-use Prim.Native.Nat.{ℕ, suc, _+_, _*_, _<_, _≤_}
+use Prim.Native.Nat.{ℕ, suc, _+_, _<_, _≤_}
 use native.Mathlib.Omega.{arith}
 use native.Mathlib.Nat.{add-zero, add-suc}
 use native.Mathlib.Numerals.{add-one}
-use lib.Dec.{ltb}
 use lib.ListN.{length}
 use Rattle.std.proofs.shelf.Ways.{tells}
 use Rattle.std.specs.declared.option.Option.{Option}
@@ -15,7 +14,7 @@ use Rattle.std.specs.Of.Vec.{vec-items, vec-len}
 use Rattle.terms.specs.declared.items.Atom.{Atom}
 use Rattle.terms.specs.declared.items.Item.{Item}
 use Rattle.terms.specs.declared.items.Item.the-variants as item
-use Rattle.terms.specs.Limits.{item-limit, open-limit}
+use Rattle.terms.specs.Limits.{open-limit}
 use Rattle.terms.specs.Maps.{Map, Lawful}
 use Rattle.terms.specs.LookUp.{look-up, length-found, Look, found, nothing}
 use Rattle.terms.proofs.LookUp.{Tells, look-tells}

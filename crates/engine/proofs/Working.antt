@@ -1,34 +1,32 @@
 -- A machine at work, and what an item does to it.
-use mathlib.Core.Path.{_≡_, refl, sym, ap, subst, _∙_}
+use mathlib.Core.Path.{_≡_, refl, sym, ap, _∙_}
 use mathlib.Core.Bool.{Bool, true, false}
-use mathlib.Core.List.{List, [], _∷_, _++_, map}
-use Prim.Native.Nat.{ℕ, zero, suc, _+_, _-_, _<_, _≤_}
+use mathlib.Core.List.{List, [], _∷_}
+use Prim.Native.Nat.{zero, suc, _+_, _-_, _<_, _≤_}
 use native.Mathlib.Omega.{arith}
 use lib.Dec.{leb}
-use lib.ListN.{length, length-map, take}
+use lib.ListN.{length, length-map}
 use Rattle.std.proofs.shelf.Ways.{tells}
 use Rattle.std.specs.declared.option.Option.{Option}
 use Rattle.std.specs.declared.option.Option.the-variants.{Some, None}
-use Rattle.std.specs.Of.Vec.{vec-items, vec-len}
+use Rattle.std.specs.Of.Vec.{vec-items}
 use Rattle.terms.specs.declared.items.Atom.{Atom}
 use Rattle.terms.specs.Limits.{path-limit, open-limit}
 use Rattle.rules.specs.Questions.{Question}
 use Rattle.rules.specs.Table.{site, node-asks, path-asks}
 use Rattle.rules.specs.Evaluation.{among, barred}
-use Rattle.machine.specs.Steps.{Built, whole, inside, so-far, room, full, put, asks, has, stops, allowed, pose}
-use Rattle.machine.specs.Items.{Position, position, onward, questions-at, Progress, working, reached, closed, took, looked-up}
+use Rattle.machine.specs.Steps.{Built, inside, full, put, asks, stops, allowed, pose}
+use Rattle.machine.specs.Items.{Position, onward, questions-at, Progress, working, reached, closed, took}
 use Rattle.path.specs.Atoms.{atoms-of}
 use Rattle.path.proofs.Paths.{length-atoms}
 use Rattle.engine.specs.declared.table.Question.{Question as Kept}
 use Rattle.engine.specs.declared.table.Open.{Open}
-use Rattle.engine.specs.declared.table.Inside.{Inside}
 use Rattle.engine.specs.declared.table.Stop.{Stop}
-use Rattle.engine.specs.declared.table.Phase.{Phase}
 use Rattle.engine.specs.declared.machine.Machine.{Machine}
 use Rattle.engine.specs.Phases.{least-open}
 use Rattle.engine.specs.Kept.{question-of, position-of, Asks}
 use Rattle.engine.proofs.Stacks.{posed-asks}
-use Rattle.engine.specs.States.{stop-of, stacked, positions-of, built-of, parts, progress-of, built-in, positions-in, top-onward, posed, Gathered}
+use Rattle.engine.specs.States.{stop-of, stacked, positions-of, parts, progress-of, built-in, positions-in, top-onward, posed, Gathered}
 use Rattle.terms.specs.declared.items.Item.the-variants as item
 use Rattle.rules.specs.Outcomes as outcomes
 use Rattle.engine.specs.declared.table.Phase.the-variants as phase

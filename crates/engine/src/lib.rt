@@ -2,6 +2,7 @@
 mod machine;
 mod question;
 mod sentence;
+mod shown;
 mod steps;
 mod table;
 mod works;

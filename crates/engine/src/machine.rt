@@ -1,5 +1,5 @@
 // The plain inner machine: where it stands, the question that is asked next, the open sentences, the insides of paths and the value.
-ghost use Prim.Native.Nat.{ℕ, _≤_};
+ghost use Prim.Native.Nat.{_≤_};
 ghost use Rattle.std.specs.Of.Vec.{vec-len, vec-cap};
 ghost use Rattle.terms.specs.Limits.{open-limit, value-limit};
 ghost use Rattle.machine.specs.Bounds.{inside-limit};

@@ -38,8 +38,8 @@ impl Question {
     pub fn same(&self, other: &Question) -> bool
         ensures { λ r. ⌜ r ≡ same-question (question-of (now (self .entry))) (question-of (now (other .entry))) ⌝ }
     {
-        self.node.0 == other.node.0
-            && self.global_node.0 == other.global_node.0
+        other.node.0 == self.node.0
+            && other.global_node.0 == self.global_node.0
             && self.path.same(&other.path)
             && self.global_path.same(&other.global_path)
     }

@@ -1,7 +1,6 @@
 // An open sentence: how it goes on, and the questions that its terms ask.
 ghost use mathlib.Core.Path.{_≡_};
-ghost use Prim.Native.Nat.{ℕ, _+_, _<_, _≤_};
-ghost use lib.ListN.{length, drop};
+ghost use Prim.Native.Nat.{_+_, _<_};
 ghost use Rattle.terms.specs.Limits.{item-limit};
 ghost use Rattle.rules.specs.Table.{node-asks, path-asks};
 ghost use Rattle.machine.specs.Items.{onward};

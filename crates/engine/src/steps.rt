@@ -1,6 +1,6 @@
 // Steps of a machine over a store.
 ghost use mathlib.Core.Path.{_≡_};
-ghost use Prim.Native.Nat.{ℕ, _+_, _-_, _*_, _<_, _≤_};
+ghost use Prim.Native.Nat.{_+_, _-_, _*_, _<_, _≤_};
 ghost use Rattle.machine.specs.Items.{took};
 ghost use Rattle.machine.specs.Bounds.{Insides-match, work-left, asked-limit};
 ghost use Rattle.engine.specs.States.{progress-of, positions-in};

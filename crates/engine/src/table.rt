@@ -1,5 +1,5 @@
 // What is kept of a question and of an open sentence.
-ghost use Prim.Native.Nat.{ℕ, _≤_};
+ghost use Prim.Native.Nat.{_≤_};
 ghost use lib.ListN.{length};
 ghost use Rattle.path.specs.Atoms.{atoms-of};
 use path::Path;

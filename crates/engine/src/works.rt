@@ -1,16 +1,15 @@
 // What the answer of a look-up and an item do to a machine.
 ghost use mathlib.Core.Path.{_≡_};
-ghost use mathlib.Core.List.{List, _∷_, [], _++_};
-ghost use Prim.Native.Nat.{ℕ, _+_, _-_, _<_, _≤_};
-ghost use lib.ListN.{length, getD};
-ghost use Rattle.std.specs.Of.Vec.{vec-items, vec-len, vec-cap};
+ghost use mathlib.Core.List.{[]};
+ghost use Prim.Native.Nat.{_-_, _<_};
+ghost use Rattle.std.specs.Of.Vec.{vec-items, vec-len};
 ghost use Rattle.std.specs.declared.option.Option.the-variants.{Some, None};
 ghost use Rattle.rules.specs.Evaluation.{among};
 ghost use Rattle.machine.specs.Steps.{Built, inside, asks, stops};
 ghost use Rattle.machine.specs.Bounds.{inside-limit};
-ghost use Rattle.machine.specs.Items.{Progress, reached, took, looked-up, questions-at, working};
-ghost use Rattle.engine.specs.Kept.{question-of, position-of, site-of};
-ghost use Rattle.engine.specs.States.{positions-of, progress-of, posed, built-in, positions-in, top-onward, Place-in-range, Wanted-in-range, Room, roomy, Top, Left-within, answered, Gathered};
+ghost use Rattle.machine.specs.Items.{reached, took, questions-at};
+ghost use Rattle.engine.specs.Kept.{question-of};
+ghost use Rattle.engine.specs.States.{progress-of, posed, built-in, positions-in, top-onward, Place-in-range, Wanted-in-range, Room, roomy, Top, Left-within, answered, Gathered};
 ghost use Rattle.terms.specs.declared.items.Item.the-variants as item;
 ghost use Rattle.rules.specs.Outcomes as outcomes;
 use crate::machine::Machine;
@@ -234,20 +233,6 @@ impl Machine {
         self.table.clear();
         self.insides.clear();
         self.value.clear();
-    }
-
-    /// Where the evaluation stands.
-    pub fn phase(&self) -> Phase
-        ensures { λ r. ⌜ r ≡ now (self .entry) .phase ⌝ }
-    {
-        self.phase
-    }
-
-    /// The value so far.
-    pub fn value(&self) -> &[Atom]
-        ensures { λ r. ⌜ now r ≡ vec-items (now (self .entry) .value) ⌝ }
-    {
-        &self.value
     }
 
     /// A machine with room for all that it may hold.

@@ -1,6 +1,6 @@
 -- What an evaluator's state shows, and what calls make of it.
 use mathlib.Core.Path.{_≡_, refl, sym, ap, subst, _∙_}
-use mathlib.Core.Bool.{Bool, true, false, _&&_}
+use mathlib.Core.Bool.{true, false, _&&_}
 use mathlib.Core.List.{List, [], _∷_, _++_, append-assoc}
 use Prim.Native.Nat.{ℕ, zero, suc, _+_, _-_, _<_, _≤_, min}
 use native.Mathlib.Omega.{arith}
@@ -16,7 +16,7 @@ use Rattle.terms.specs.Limits.{atom-limit, step-limit}
 use Rattle.terms.specs.Maps.{Map, Meaning, every, atom-in-range}
 use Rattle.rules.specs.Questions.{Question}
 use Rattle.rules.specs.Shown.{Shown, unfinished, shows, ended}
-use Rattle.machine.specs.Steps.{Open, State, whole, asks, after, steps-taken, start}
+use Rattle.machine.specs.Steps.{whole, asks, after, steps-taken, start}
 use Rattle.machine.specs.Items.{reached, meant, comes-to}
 use Rattle.machine.specs.Bounds.{Insides-match}
 use Rattle.machine.specs.Theorems.{shown-of}
@@ -32,7 +32,7 @@ use Rattle.engine.specs.declared.table.Worked.{Worked}
 use Rattle.engine.specs.declared.machine.Machine.{Machine}
 use Rattle.engine.specs.Kept.{question-of}
 use Rattle.engine.specs.States.{parts, progress-of, stop-of}
-use Rattle.engine.specs.Between.{state-in, Rests, Between, Went-on}
+use Rattle.engine.specs.Between.{Rests, Between, Went-on}
 use Rattle.engine.proofs.Working.{first-asks}
 use Rattle.evaluator.specs.declared.answers.Call.{Call}
 use Rattle.evaluator.specs.declared.answers.Outcome.the-variants as answer

@@ -1,5 +1,5 @@
 // An evaluator over a store.
-ghost use Prim.Native.Nat.{ℕ, _≤_};
+ghost use Prim.Native.Nat.{_≤_};
 ghost use Rattle.terms.specs.Limits.{step-limit};
 use engine::Machine;
 use engine::Question;

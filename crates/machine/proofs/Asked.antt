@@ -1,6 +1,6 @@
 -- How often the store is asked.
 use mathlib.Core.Path.{_≡_, refl, ap}
-use mathlib.Core.List.{List, [], _∷_, map}
+use mathlib.Core.List.{List, [], _∷_}
 use Prim.Native.Nat.{ℕ, zero, suc, _+_, _-_, _*_, _≤_, _<_}
 use native.Mathlib.Omega.{arith}
 use lib.ListN.{length, length-map}
@@ -17,7 +17,7 @@ use Rattle.rules.specs.Outcomes.{Stop}
 use Rattle.rules.specs.Evaluation.{barred}
 use Rattle.stores.specs.Items.{item-at}
 use Rattle.machine.specs.Steps.{Built, whole, inside, room, full, put, asks, stops, allowed, pose}
-use Rattle.machine.specs.Items.{Position, onward, right-side, questions-at, Progress, working, reached, closed, took-item, took, looked-up}
+use Rattle.machine.specs.Items.{Position, onward, right-side, questions-at, Progress, working, reached, took-item, took, looked-up}
 use Rattle.machine.specs.Bounds.{Few-open, items-left, work-left, Asked, not-yet, for-a-look-up, for-an-item, asked-limit}
 use Rattle.machine.specs.Theorems.{Store-is-asked-within-limit}
 use Rattle.machine.proofs.Bounds.{took-falls}

@@ -1,7 +1,7 @@
 -- An item that is taken keeps what stays in range.
 use mathlib.Core.Path.{_≡_, refl, sym, ap, subst, _∙_}
 use mathlib.Core.Bool.{Bool, true, false, _&&_}
-use mathlib.Core.List.{List, [], _∷_, _++_, map}
+use mathlib.Core.List.{List, [], _∷_}
 use Prim.Native.Nat.{ℕ, zero, suc, _+_, _-_, _*_, _≤_, _<_}
 use native.Mathlib.Omega.{arith}
 use native.Mathlib.Numerals.{add-one}
@@ -13,20 +13,20 @@ use Rattle.std.proofs.shelf.Ways.{tells}
 use Rattle.terms.specs.declared.items.Atom.{Atom}
 use Rattle.terms.specs.declared.items.Item.{Item}
 use Rattle.terms.specs.Limits.{item-limit, nesting-limit, open-limit}
-use Rattle.terms.specs.Terms.{Terms, Reading, flat, read, in-path, balanced}
+use Rattle.terms.specs.Terms.{Terms, flat, read, in-path, balanced}
 use Rattle.terms.specs.Maps.{Map, Lawful}
 use Rattle.rules.specs.Questions.{Question}
-use Rattle.rules.specs.Table.{Site, site, node-asks, path-asks}
+use Rattle.rules.specs.Table.{site, node-asks, path-asks}
 use Rattle.rules.specs.Outcomes.{Stop}
 use Rattle.rules.specs.Evaluation.{barred}
 use Rattle.terms.specs.LookUp.{Look, found, nothing, look-up, length-found}
 use Rattle.terms.proofs.Balance.{balanced-items-are-term-lists}
 use Rattle.terms.proofs.LookUp.{Tells, look-tells}
-use Rattle.machine.specs.Steps.{Built, whole, inside, room, full, put, so-far, close, State, asks, has, stops, allowed, pose}
+use Rattle.machine.specs.Steps.{Built, whole, inside, room, full, put, asks, stops, allowed, pose}
 use Rattle.stores.specs.Items.{item-at, items-of}
-use Rattle.machine.specs.Items.{Position, position, onward, right-side, standing, questions-at, Progress, working, reached, closed, took-item, took, looked-up}
-use Rattle.machine.specs.Bounds.{inside-limit, insides, paths-open, Insides-match, items-left, work-left}
-use Rattle.machine.proofs.Standing.{read-flat, Shut, shut-flat, shut-drop, drop-some, drop-none}
+use Rattle.machine.specs.Items.{Position, position, onward, right-side, standing, questions-at, working, reached, closed, took-item, took, looked-up}
+use Rattle.machine.specs.Bounds.{inside-limit, insides, paths-open, Insides-match, work-left}
+use Rattle.machine.proofs.Standing.{read-flat, Shut, shut-drop, drop-some, drop-none}
 use Rattle.machine.proofs.Items.{shut-side}
 use Rattle.terms.specs.declared.items.Item.the-variants as item
 

@@ -1,8 +1,7 @@
 -- An item that is taken leaves what the step comes to.
-use mathlib.Core.Path.{_≡_, refl, sym, ap, ap₂, subst, _∙_}
-use mathlib.Core.List.{List, [], _∷_, _++_, map, append-nil}
+use mathlib.Core.Path.{_≡_, refl, sym, ap, subst, _∙_}
+use mathlib.Core.List.{List, [], _∷_, map, append-nil}
 use Prim.Native.Nat.{ℕ, zero, suc, _+_, _-_}
-use native.Mathlib.Omega.{arith}
 use native.Mathlib.Numerals.{add-one}
 use lib.ListN.{length, drop, take}
 use Rattle.std.specs.declared.option.Option.{Option}
@@ -10,17 +9,17 @@ use Rattle.std.specs.declared.option.Option.the-variants.{Some, None}
 use Rattle.terms.specs.declared.items.Atom.{Atom}
 use Rattle.terms.specs.declared.items.Item.{Item}
 use Rattle.terms.specs.Limits.{open-limit}
-use Rattle.terms.specs.Terms.{Terms, Reading, flat, read, in-path}
+use Rattle.terms.specs.Terms.{Terms, flat, read, in-path}
 use Rattle.terms.specs.Maps.{Map}
 use Rattle.rules.specs.Questions.{Question}
-use Rattle.rules.specs.Table.{Site, site, node-asks, path-asks}
+use Rattle.rules.specs.Table.{site, node-asks, path-asks}
 use Rattle.rules.specs.Outcomes.{Stop}
 use Rattle.rules.specs.Evaluation.{barred}
 use Rattle.terms.specs.LookUp.{Look, found, nothing, look-up, length-found}
 use Rattle.terms.proofs.LookUp.{Tells, look-tells}
-use Rattle.machine.specs.Steps.{Built, whole, inside, room, full, put, so-far, close, Open, open-sentence, questions, State, asks, has, stops, allowed, pose, work-terms, work-sentences, looked, next}
+use Rattle.machine.specs.Steps.{Built, whole, inside, room, full, put, Open, open-sentence, questions, asks, stops, allowed, pose, work-terms, work-sentences, looked, next}
 use Rattle.stores.specs.Items.{item-at, items-of}
-use Rattle.machine.specs.Items.{Position, position, onward, right-side, reading, standing, questions-at, Progress, working, reached, meant-state, meant, comes-to, closed, took-item, took, looked-up}
+use Rattle.machine.specs.Items.{Position, position, onward, right-side, reading, standing, questions-at, working, reached, meant-state, meant, comes-to, closed, took-item, took, looked-up}
 use Rattle.machine.proofs.Standing.{read-flat, Shut, shut-flat, shut-drop, drop-some, drop-none}
 use Rattle.terms.specs.declared.items.Item.the-variants as item
 

@@ -1,12 +1,12 @@
 -- Laws of results and holds.
-use mathlib.Core.Path.{_≡_, refl, sym, ap, ap₂, _∙_}
-use mathlib.Core.List.{List, [], _∷_, _++_, append-nil, append-assoc}
-use Prim.Native.Nat.{ℕ, zero, suc, _+_, _-_}
+use mathlib.Core.Path.{_≡_, refl, sym, ap}
+use mathlib.Core.List.{List, [], _++_, append-nil, append-assoc}
+use Prim.Native.Nat.{ℕ, _+_, _-_}
 use native.Mathlib.Omega.{arith}
 use native.Mathlib.Nat.{add-assoc, zero-add, add-zero}
 use lib.ListN.{length, length-append}
 use Rattle.terms.specs.declared.items.Atom.{Atom}
-use Rattle.rules.specs.Outcomes.{Stop, Outcome, value, stopped, later, behind, then}
+use Rattle.rules.specs.Outcomes.{Outcome, value, stopped, later, behind, then}
 use Rattle.machine.specs.Steps.{Built, whole, inside, room, full, put}
 
 pub later-zero : (r : Outcome) → later 0 r ≡ r

@@ -3,8 +3,7 @@ use mathlib.Core.Path.{_≡_, refl, sym, ap, subst, _∙_}
 use mathlib.Core.List.{List, [], _∷_, _++_, append-nil, append-assoc}
 use Prim.Native.Nat.{ℕ, zero, suc, _+_}
 use native.Mathlib.Omega.{arith}
-use lib.ListN.{length, drop}
-use Rattle.std.specs.declared.option.Option.{Option}
+use lib.ListN.{drop}
 use Rattle.std.specs.declared.option.Option.the-variants.{Some, None}
 use Rattle.terms.specs.declared.items.Item.{Item}
 use Rattle.terms.specs.Terms.{Terms, done, atom, node, path, Reading, flat, read, in-path}

@@ -3,14 +3,13 @@ use mathlib.Core.Path.{_≡_, refl, sym, ap, _∙_}
 use mathlib.Core.Bool.{Bool, true, false}
 use Prim.Native.Nat.{ℕ, zero, suc, _+_, _-_, min}
 use native.Mathlib.Omega.{arith}
-use native.Mathlib.Nat.{suc-add, zero-add, add-suc, add-zero}
+use native.Mathlib.Nat.{suc-add, zero-add}
 use native.Mathlib.Numerals.{one-add}
 use lib.Dec.{leb, leb·zero, leb·suc-zero, leb·suc-suc}
 use Rattle.terms.specs.Maps.{Map}
-use Rattle.rules.specs.Questions.{Question}
-use Rattle.rules.specs.Outcomes.{Stop, Outcome, value, stopped, later}
+use Rattle.rules.specs.Outcomes.{Outcome, value, stopped, later}
 use Rattle.rules.specs.Evaluation.{outcome}
-use Rattle.rules.specs.Shown.{Shown, unfinished, shows, ended, settled, shown, steps}
+use Rattle.rules.specs.Shown.{Shown, unfinished, settled, shown, steps}
 use Rattle.machine.specs.Steps.{Open, State, asks, has, stops, next, after, step-of, steps-taken, start}
 use Rattle.machine.specs.ToCome.{to-come}
 use Rattle.machine.specs.Theorems.{shown-of, Steps-show-the-outcome, Steps-taken-are-reported, Steps-add-up}

@@ -1,9 +1,9 @@
 -- One step takes one off what is still to come.
-use mathlib.Core.Path.{_≡_, refl, sym, ap, ap₂, subst, _∙_}
-use mathlib.Core.List.{List, [], _∷_, _++_, map}
+use mathlib.Core.Path.{_≡_, refl, sym, ap, _∙_}
+use mathlib.Core.List.{List, [], _∷_, _++_}
 use Prim.Native.Nat.{ℕ, zero, suc, _+_, _-_}
 use native.Mathlib.Omega.{arith}
-use lib.ListN.{length, length-map}
+use lib.ListN.{length}
 use Rattle.std.specs.declared.option.Option.{Option}
 use Rattle.std.specs.declared.option.Option.the-variants.{Some, None}
 use Rattle.terms.specs.declared.items.Atom.{Atom}
@@ -14,11 +14,11 @@ use Rattle.terms.specs.Terms.{Terms}
 use Rattle.terms.specs.Maps.{Map}
 use Rattle.rules.specs.Questions.{Question}
 use Rattle.rules.specs.Table.{Site, site, node-asks, path-asks}
-use Rattle.rules.specs.Outcomes.{Stop, Outcome, value, stopped, later, behind, then}
+use Rattle.rules.specs.Outcomes.{Stop, Outcome, stopped, later, behind, then}
 use Rattle.terms.specs.LookUp.{Look, found, nothing, look-up}
-use Rattle.rules.specs.Evaluation.{barred, unless, step, work, ask, outcome}
-use Rattle.machine.specs.Steps.{Built, whole, inside, room, full, put, so-far, Open, open-sentence, questions, State, asks, has, stops, allowed, pose, close, work-terms, work-sentences, looked, next, start}
-use Rattle.machine.specs.ToCome.{inner, worked, closing, resumed, asked, to-come}
+use Rattle.rules.specs.Evaluation.{barred, step, work, ask, outcome}
+use Rattle.machine.specs.Steps.{Built, whole, inside, room, full, put, Open, open-sentence, questions, asks, stops, allowed, pose, work-terms, work-sentences, looked, next, start}
+use Rattle.machine.specs.ToCome.{inner, worked, closing, resumed, to-come}
 use Rattle.machine.proofs.Laws.{later-zero, then-same, then-value, then-later, then-behind, then-then, put-none, put-put, room-put, full-put}
 
 -- what a new question comes to, and all that is behind it

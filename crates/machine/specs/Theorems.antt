@@ -1,7 +1,7 @@
 -- What holds of an evaluation by steps.
 use mathlib.Core.Path.{_≡_}
 use mathlib.Core.List.{[]}
-use Prim.Native.Nat.{ℕ, _+_, _*_, _≤_, min}
+use Prim.Native.Nat.{ℕ, _+_, _*_, _≤_}
 use Rattle.terms.specs.Maps.{Map, Lawful}
 use Rattle.rules.specs.Questions.{Question}
 use Rattle.rules.specs.Evaluation.{outcome}

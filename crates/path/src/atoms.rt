@@ -1,10 +1,10 @@
 // What is done with a path: atoms are put behind it, and it is read and compared.
 ghost use mathlib.Core.Path.{_≡_};
 ghost use mathlib.Core.Bool.{true, false, cond};
-ghost use mathlib.Core.List.{List, _∷_, [], _++_};
-ghost use Prim.Native.Nat.{ℕ, _+_, _<_, _≤_};
-ghost use lib.Dec.{T, ltb, leb};
-ghost use lib.ListN.{length, take, getD};
+ghost use mathlib.Core.List.{_∷_, [], _++_};
+ghost use Prim.Native.Nat.{_+_, _<_};
+ghost use lib.Dec.{ltb};
+ghost use lib.ListN.{length};
 ghost use Rattle.terms.specs.Limits.{path-limit};
 ghost use Rattle.terms.specs.Maps.{same-atoms};
 ghost use Rattle.path.specs.Atoms.{atoms-of, Joined};
@@ -22,12 +22,6 @@ impl Path {
             atoms: [Atom(0); PATH_ATOMS],
             len: 0,
         }
-    }
-
-    pub fn len(&self) -> usize
-        ensures { λ r. ⌜ r ≡ length (atoms-of (now (self .entry))) ⌝ }
-    {
-        self.len
     }
 
     pub fn as_slice(&self) -> &[Atom]

@@ -1,7 +1,7 @@
 // Begin, work and give up.
 ghost use mathlib.Core.Path.{_≡_};
 ghost use mathlib.Core.List.{List};
-ghost use Prim.Native.Nat.{ℕ, _+_, _-_, _*_, _<_, _≤_, min};
+ghost use Prim.Native.Nat.{_+_, _-_, _*_, _<_, _≤_, min};
 ghost use Rattle.std.specs.Vec.{made};
 ghost use Rattle.machine.specs.Bounds.{asked-limit};
 ghost use Rattle.evaluator.specs.Calls.{Act, begins, works, gives-up, act-of, numbered, Grants-add-up};

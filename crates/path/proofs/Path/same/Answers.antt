@@ -1,5 +1,3 @@
-use mathlib.Core.Path.{_≡_}
-use Rattle.path.specs.Atoms.{atoms-of}
 use Rattle.path.proofs.Paths.{matches-same}
 use Rattle.path.proofs.Path.same.Needs as need
 

@@ -1,18 +1,18 @@
-use mathlib.Core.Path.{_≡_, refl, sym, ap, subst, _∙_}
-use mathlib.Core.List.{_∷_, [], _++_}
-use Prim.Native.Nat.{_-_, _<_, _≤_}
+use mathlib.Core.Path.{_≡_, sym, ap, subst, _∙_}
+use mathlib.Core.List.{_∷_}
+use Prim.Native.Nat.{_-_, _<_}
 use native.Mathlib.Omega.{arith}
-use lib.ListN.{length, take, set}
-use Rattle.std.specs.declared.option.Option.the-variants.{Some, None}
+use lib.ListN.{length, take}
+use Rattle.std.specs.declared.option.Option.the-variants.{Some}
 use Rattle.std.specs.Of.Vec.{vec-items, vec-len}
 use Rattle.std.proofs.shelf.Ways.{tells}
 use Rattle.machine.specs.Steps.{whole, inside}
-use Rattle.machine.specs.Items.{onward, working, reached, took}
+use Rattle.machine.specs.Items.{working, reached, took}
 use Rattle.path.specs.Atoms.{atoms-of}
 use Rattle.engine.specs.Kept.{position-of}
-use Rattle.engine.specs.States.{positions-of, built-of, positions-in, built-in, posed, Place-in-range}
-use Rattle.engine.proofs.Stacks.{positions-last, positions-set, built-push, none-long, below-last, built-so-far}
-use Rattle.engine.proofs.Working.{at-work, some-is-open, took-node, took-close, some-positions, closed-some}
+use Rattle.engine.specs.States.{positions-of, built-of, built-in, posed, Place-in-range}
+use Rattle.engine.proofs.Stacks.{positions-last, positions-set, built-push, none-long}
+use Rattle.engine.proofs.Working.{at-work, some-is-open, took-close}
 use Rattle.terms.specs.declared.items.Item.the-variants as item
 use Rattle.engine.proofs.machine.Machine.close_path.Needs as need
 

@@ -1,20 +1,16 @@
-use mathlib.Core.Path.{_≡_, refl, sym, ap, subst, _∙_}
-use mathlib.Core.List.{_∷_, [], _++_}
-use Prim.Native.Nat.{_-_, _<_, _≤_}
+use mathlib.Core.Path.{_≡_, sym, ap, _∙_}
+use mathlib.Core.List.{_∷_}
+use Prim.Native.Nat.{_-_, _<_}
 use native.Mathlib.Omega.{arith}
-use lib.ListN.{length, take, set}
-use Rattle.std.specs.declared.option.Option.the-variants.{Some, None}
+use lib.ListN.{length, take}
+use Rattle.std.specs.declared.option.Option.the-variants.{None}
 use Rattle.std.specs.Of.Vec.{vec-items, vec-len}
-use Rattle.std.proofs.shelf.Ways.{tells}
-use Rattle.machine.specs.Steps.{whole, inside, has}
-use Rattle.machine.specs.Items.{onward, working, reached, closed, took}
-use Rattle.path.specs.Atoms.{atoms-of}
+use Rattle.machine.specs.Steps.{whole, has}
+use Rattle.machine.specs.Items.{working, reached, closed, took}
 use Rattle.engine.specs.Phases.{least-open}
-use Rattle.engine.specs.Kept.{position-of}
-use Rattle.engine.specs.States.{parts, positions-of, built-of, positions-in, built-in, posed, Place-in-range}
-use Rattle.engine.proofs.Stacks.{positions-last, positions-set, built-push, none-long, below-last, built-so-far}
-use Rattle.engine.proofs.Working.{at-work, some-is-open, took-node, took-close, some-positions, closed-some}
-use Rattle.terms.specs.declared.items.Item.the-variants as item
+use Rattle.engine.specs.States.{parts, positions-of, built-in}
+use Rattle.engine.proofs.Stacks.{below-last, built-so-far}
+use Rattle.engine.proofs.Working.{at-work, some-positions, closed-some}
 use Rattle.engine.proofs.machine.Machine.close_sentence.Needs as need
 
 pub returns-then-below-eq0 : need.returns-then-below-eq0

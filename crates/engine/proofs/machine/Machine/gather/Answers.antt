@@ -1,6 +1,6 @@
-use mathlib.Core.Path.{_≡_, refl, sym, ap, subst, _∙_}
-use mathlib.Core.List.{_∷_, [], _++_}
-use Prim.Native.Nat.{suc, _-_, _<_, _≤_}
+use mathlib.Core.Path.{_≡_, refl, sym, ap, _∙_}
+use mathlib.Core.List.{_∷_, []}
+use Prim.Native.Nat.{_-_, _<_, _≤_}
 use native.Mathlib.Omega.{arith}
 use lib.ListN.{length, take}
 use Rattle.std.specs.Of.Vec.{vec-items, vec-len}
@@ -8,7 +8,7 @@ use Rattle.std.proofs.shelf.Ways.{tells}
 use Rattle.terms.specs.Limits.{path-limit, value-limit}
 use Rattle.machine.specs.Steps.{whole, inside, room, full, put}
 use Rattle.path.specs.Atoms.{atoms-of}
-use Rattle.engine.specs.States.{positions-of, built-of}
+use Rattle.engine.specs.States.{built-of}
 use Rattle.engine.proofs.Stacks.{built-last, built-set, none-long}
 use Rattle.engine.proofs.machine.Machine.gather.Needs as need
 

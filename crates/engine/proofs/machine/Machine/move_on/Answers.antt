@@ -1,11 +1,10 @@
 use mathlib.Core.Path.{_≡_, refl, sym, ap, subst, _∙_}
-use mathlib.Core.List.{_∷_, []}
+use mathlib.Core.List.{_∷_}
 use Prim.Native.Nat.{_-_, _<_}
 use native.Mathlib.Omega.{arith}
 use lib.ListN.{length, take}
 use Rattle.std.specs.Of.Vec.{vec-items, vec-len}
 use Rattle.std.proofs.shelf.Ways.{tells}
-use Rattle.engine.specs.Kept.{position-of}
 use Rattle.engine.specs.States.{positions-of, top-onward, Place-in-range}
 use Rattle.engine.proofs.Stacks.{positions-last, positions-set, none-long}
 use Rattle.engine.proofs.machine.Machine.move_on.Needs as need

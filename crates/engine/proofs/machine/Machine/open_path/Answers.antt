@@ -1,7 +1,6 @@
-use mathlib.Core.Path.{_≡_, refl, sym, ap, subst, _∙_}
-use mathlib.Core.List.{_∷_, []}
-use Rattle.std.specs.declared.option.Option.the-variants.{Some, None}
-use Rattle.std.specs.Of.Vec.{vec-items, vec-len}
+use mathlib.Core.Path.{sym, ap, _∙_}
+use Rattle.std.specs.declared.option.Option.the-variants.{Some}
+use Rattle.std.specs.Of.Vec.{vec-items}
 use Rattle.machine.specs.Steps.{whole, inside}
 use Rattle.machine.specs.Items.{working, took}
 use Rattle.engine.specs.States.{positions-in, built-in, built-of, top-onward}

@@ -1,8 +1,7 @@
-use mathlib.Core.Path.{_≡_, refl, sym, ap, subst, _∙_}
-use mathlib.Core.List.{_∷_, []}
-use Rattle.std.specs.declared.option.Option.the-variants.{Some, None}
+use mathlib.Core.Path.{sym, ap, _∙_}
+use Rattle.std.specs.declared.option.Option.the-variants.{Some}
 use Rattle.machine.specs.Items.{working, took}
-use Rattle.engine.specs.States.{positions-in, built-in, top-onward, Gathered}
+use Rattle.engine.specs.States.{positions-in, built-in, top-onward}
 use Rattle.engine.proofs.Working.{at-work, some-is-open, took-atom, took-none}
 use Rattle.terms.specs.declared.items.Item.the-variants as item
 use Rattle.engine.proofs.machine.Machine.put.Needs as need

@@ -1,9 +1,9 @@
-use mathlib.Core.Path.{_≡_, refl, sym, subst}
-use Prim.Native.Nat.{_+_, _-_, _*_, _≤_, min}
+use mathlib.Core.Path.{_≡_, refl, subst}
+use Prim.Native.Nat.{_+_, _-_, min}
 use native.Mathlib.Omega.{arith}
 use Rattle.std.specs.Of.Vec.{vec-items}
 use Rattle.terms.specs.Limits.{step-limit}
-use Rattle.machine.specs.Bounds.{Asked, asked-limit}
+use Rattle.machine.specs.Bounds.{Asked}
 use Rattle.engine.specs.States.{progress-of}
 use Rattle.evaluator.specs.Calls.{works}
 use Rattle.evaluator.proofs.Came.{refused-does, passed-does, idle-yes, idle-no, granted-on, holds-on, between-held}

@@ -1,6 +1,6 @@
 // Questions: a first one, and the test for a circle.
 ghost use mathlib.Core.Path.{_≡_};
-ghost use Rattle.rules.specs.Questions.{own};
+ghost use Rattle.rules.specs.Questions.{own, same};
 ghost use Rattle.rules.specs.Evaluation.{same-question};
 ghost use Rattle.path.specs.Atoms.{atoms-of};
 ghost use Rattle.engine.specs.Kept.{question-of};
@@ -19,6 +19,18 @@ impl Question {
             path,
             global_node: node,
             global_path: path,
+        }
+    }
+
+    /// A question in the same context.
+    pub(crate) fn in_context(&self, node: Node, path: Path) -> Question
+        ensures { λ r. ⌜ question-of r ≡ same (question-of (now (self .entry)) .context) node (atoms-of path) ⌝ }
+    {
+        Question {
+            node,
+            path,
+            global_node: self.global_node,
+            global_path: self.global_path,
         }
     }
 

@@ -48,27 +48,9 @@ impl Open {
         ensures { λ r. ⌜ Asks r (node-asks (site-of (now (self .entry))) quoting node) ⌝ }
     {
         match quoting {
-            Quoting::Plain => {
-                let Question {
-                    node: _,
-                    path,
-                    global_node,
-                    global_path,
-                } = self.at;
-                Some(Question {
-                    node,
-                    path,
-                    global_node,
-                    global_path,
-                })
-            }
+            Quoting::Plain => Some(self.at.in_context(node, self.at.path)),
             Quoting::Quoted => match self.extended(self.at.global_path) {
-                Some(path) => Some(Question {
-                    node,
-                    path,
-                    global_node: node,
-                    global_path: path,
-                }),
+                Some(path) => Some(Question::first(node, path)),
                 None => None,
             },
         }
@@ -81,39 +63,11 @@ impl Open {
         let Some(path) = self.extended(inside.atoms) else {
             return None;
         };
-        let Question {
-            node: here,
-            path: _,
-            global_node,
-            global_path,
-        } = self.at;
-        Some(
-            match (inside.quoting, inside.node) {
-                (Quoting::Plain, Some(node)) => Question {
-                    node,
-                    path,
-                    global_node,
-                    global_path,
-                },
-                (Quoting::Plain, None) => Question {
-                    node: here,
-                    path,
-                    global_node,
-                    global_path,
-                },
-                (Quoting::Quoted, Some(node)) => Question {
-                    node,
-                    path,
-                    global_node: node,
-                    global_path: path,
-                },
-                (Quoting::Quoted, None) => Question {
-                    node: global_node,
-                    path,
-                    global_node,
-                    global_path: path,
-                },
-            },
-        )
+        Some(match (inside.quoting, inside.node) {
+            (Quoting::Plain, Some(node)) => self.at.in_context(node, path),
+            (Quoting::Plain, None) => self.at.in_context(self.at.node, path),
+            (Quoting::Quoted, Some(node)) => Question::first(node, path),
+            (Quoting::Quoted, None) => Question::first(self.at.global_node, path),
+        })
     }
 }

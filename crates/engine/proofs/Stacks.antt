@@ -17,10 +17,10 @@ use Rattle.rules.specs.Evaluation.{among, same-question, barred}
 use Rattle.machine.specs.Steps.{Built, inside, so-far, pose, allowed, asks}
 use Rattle.machine.specs.Items.{Position, questions-at}
 use Rattle.path.specs.Atoms.{atoms-of}
-use Rattle.engine.specs.declared.table.Question.{Question as Kept}
-use Rattle.engine.specs.declared.table.Open.{Open}
-use Rattle.engine.specs.declared.table.Inside.{Inside}
-use Rattle.engine.specs.Kept.{question-of, position-of, Asks}
+use Rattle.sentences.specs.declared.table.Question.{Question as Kept}
+use Rattle.sentences.specs.declared.table.Open.{Open}
+use Rattle.sentences.specs.declared.table.Inside.{Inside}
+use Rattle.sentences.specs.Kept.{question-of, position-of, Asks}
 use Rattle.engine.specs.States.{stacked, positions-of, built-of, posed}
 
 module _ {X : Type 0} (xs : List X) (n : ℕ) (long : n ≡ length xs) (some : 0 < n) where

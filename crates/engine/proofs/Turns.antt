@@ -25,14 +25,14 @@ use Rattle.machine.proofs.Items.{took-comes-to, looked-up-comes-to}
 use Rattle.machine.proofs.Bounds.{small-place, path-room, took-insides, took-falls, looked-up-insides}
 use Rattle.machine.proofs.Asked.{items-left-most}
 use Rattle.path.specs.Atoms.{atoms-of}
-use Rattle.engine.specs.declared.table.Question.{Question as Kept}
-use Rattle.engine.specs.declared.table.Open.{Open}
-use Rattle.engine.specs.declared.table.Inside.{Inside}
+use Rattle.sentences.specs.declared.table.Question.{Question as Kept}
+use Rattle.sentences.specs.declared.table.Open.{Open}
+use Rattle.sentences.specs.declared.table.Inside.{Inside}
 use Rattle.engine.specs.declared.table.Phase.{Phase}
 use Rattle.engine.specs.declared.table.Phase.the-variants as phase
 use Rattle.engine.specs.declared.machine.Machine.{Machine}
 use Rattle.engine.specs.Phases.{most-open}
-use Rattle.engine.specs.Kept.{question-of}
+use Rattle.sentences.specs.Kept.{question-of}
 use Rattle.engine.specs.States.{positions-of, built-of, progress-of, parts, positions-in, built-in, Wanted-in-range, Room, roomy, Left-within, answered}
 use Rattle.engine.specs.Between.{state-in, next-item, Rests}
 use Rattle.engine.proofs.Working.{at-work, Some-open, some-is-open, length-stacked}

@@ -19,12 +19,12 @@ use Rattle.machine.specs.Steps.{Built, inside, full, put, asks, stops, allowed,
 use Rattle.machine.specs.Items.{Position, onward, questions-at, Progress, working, reached, closed, took}
 use Rattle.path.specs.Atoms.{atoms-of}
 use Rattle.path.proofs.Paths.{length-atoms}
-use Rattle.engine.specs.declared.table.Question.{Question as Kept}
-use Rattle.engine.specs.declared.table.Open.{Open}
+use Rattle.sentences.specs.declared.table.Question.{Question as Kept}
+use Rattle.sentences.specs.declared.table.Open.{Open}
 use Rattle.engine.specs.declared.table.Stop.{Stop}
 use Rattle.engine.specs.declared.machine.Machine.{Machine}
 use Rattle.engine.specs.Phases.{least-open}
-use Rattle.engine.specs.Kept.{question-of, position-of, Asks}
+use Rattle.sentences.specs.Kept.{question-of, position-of, Asks}
 use Rattle.engine.proofs.Stacks.{posed-asks}
 use Rattle.engine.specs.States.{stop-of, stacked, positions-of, parts, progress-of, built-in, positions-in, top-onward, posed, Gathered}
 use Rattle.terms.specs.declared.items.Item.the-variants as item

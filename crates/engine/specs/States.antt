@@ -17,15 +17,15 @@ use Rattle.machine.specs.Steps.{Built, whole, inside, room, full, put, asks, ha
 use Rattle.machine.specs.Items.{Position, onward, Progress, working, reached, questions-at, looked-up}
 use Rattle.machine.specs.Bounds.{inside-limit}
 use Rattle.path.specs.Atoms.{atoms-of}
-use Rattle.engine.specs.declared.table.Question.{Question as Kept}
-use Rattle.engine.specs.declared.table.Open.{Open}
-use Rattle.engine.specs.declared.table.Inside.{Inside}
+use Rattle.sentences.specs.declared.table.Question.{Question as Kept}
+use Rattle.sentences.specs.declared.table.Open.{Open}
+use Rattle.sentences.specs.declared.table.Inside.{Inside}
 use Rattle.engine.specs.declared.table.Stop.{Stop}
 use Rattle.engine.specs.declared.table.Stop.the-variants as stop
 use Rattle.engine.specs.declared.table.Phase.{Phase}
 use Rattle.engine.specs.declared.table.Phase.the-variants as phase
 use Rattle.engine.specs.declared.machine.Machine.{Machine}
-use Rattle.engine.specs.Kept.{question-of, position-of}
+use Rattle.sentences.specs.Kept.{question-of, position-of}
 
 -- why there is no value, by case
 abbrev pub stop-of : Stop → outcomes.Stop

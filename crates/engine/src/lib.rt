@@ -1,7 +1,5 @@
 // The machine that works a question over a store, item by item: the table of open sentences, and what is being built.
 mod machine;
-mod question;
-mod sentence;
 mod shown;
 mod steps;
 mod table;
@@ -9,6 +7,5 @@ mod works;
 
 pub use machine::Machine;
 pub use table::Phase;
-pub use table::Question;
 pub use table::Stop;
 pub use table::Worked;

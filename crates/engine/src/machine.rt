@@ -4,10 +4,10 @@ ghost use Rattle.std.specs.Of.Vec.{vec-len, vec-cap};
 ghost use Rattle.terms.specs.Limits.{open-limit, value-limit};
 ghost use Rattle.machine.specs.Bounds.{inside-limit};
 ghost use Rattle.engine.specs.Phases.{least-open, most-open};
-use crate::table::Inside;
-use crate::table::Open;
 use crate::table::Phase;
-use crate::table::Question;
+use sentences::Inside;
+use sentences::Open;
+use sentences::Question;
 use terms::Atom;
 
 #[derive(Drop)]

@@ -7,16 +7,17 @@ ghost use Rattle.std.specs.declared.option.Option.the-variants.{Some, None};
 ghost use Rattle.rules.specs.Evaluation.{among};
 ghost use Rattle.machine.specs.Steps.{Built, inside, asks, stops};
 ghost use Rattle.machine.specs.Bounds.{inside-limit};
-ghost use Rattle.machine.specs.Items.{reached, took, questions-at};
-ghost use Rattle.engine.specs.Kept.{question-of};
+ghost use Rattle.terms.specs.Limits.{item-limit};
+ghost use Rattle.machine.specs.Items.{onward, reached, took, questions-at};
+ghost use Rattle.sentences.specs.Kept.{question-of, position-of};
 ghost use Rattle.engine.specs.States.{progress-of, posed, built-in, positions-in, top-onward, Place-in-range, Wanted-in-range, Room, roomy, Top, Left-within, answered, Gathered};
 ghost use Rattle.terms.specs.declared.items.Item.the-variants as item;
 ghost use Rattle.rules.specs.Outcomes as outcomes;
 use crate::machine::Machine;
-use crate::table::Inside;
-use crate::table::Open;
+use sentences::Inside;
+use sentences::Open;
 use crate::table::Phase;
-use crate::table::Question;
+use sentences::Question;
 use crate::table::Stop;
 use path::Path;
 use std::alloc::AllocError;
@@ -31,6 +32,14 @@ use terms::limits::VALUE_ATOMS;
 
 /// The insides of paths that are built at a time: of each open sentence as many as paths nest.
 const INSIDES: usize = OPEN_SENTENCES * NESTING;
+
+/// One item further.
+fn advance(top: &mut Open)
+    requires { ⌜ now top .place < item-limit ⌝ }
+    ensures { λ _. ⌜ position-of (now (top .exit)) ≡ onward (position-of (now (top .entry))) ⌝ }
+{
+    top.place += 1;
+}
 
 impl Machine {
     /// Whether a sentence is open for the same question.
@@ -92,7 +101,7 @@ impl Machine {
         ensures phase { λ _. ⌜ now (self .exit) .phase ≡ now (self .entry) .phase ⌝ }
     {
         if let Some(top) = self.table.last_mut() {
-            top.move_on();
+            advance(top);
         }
     }
 
@@ -128,7 +137,7 @@ impl Machine {
     {
         if let Some(top) = self.table.last_mut() {
             let asked = top.node_asks(quoting, node);
-            top.move_on();
+            advance(top);
             self.pose(asked);
         }
     }
@@ -144,7 +153,7 @@ impl Machine {
         };
         if let Some(top) = self.table.last_mut() {
             let asked = top.path_asks(inside);
-            top.move_on();
+            advance(top);
             self.pose(asked);
         }
     }

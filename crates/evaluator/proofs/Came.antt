@@ -21,16 +21,16 @@ use Rattle.machine.specs.Items.{reached, meant, comes-to}
 use Rattle.machine.specs.Bounds.{Insides-match}
 use Rattle.machine.specs.Theorems.{shown-of}
 use Rattle.machine.proofs.Steps.{steps-show-the-outcome, steps-taken-are-reported, steps-add-up}
-use Rattle.engine.specs.declared.table.Question.{Question as Kept}
-use Rattle.engine.specs.declared.table.Open.{Open as Opened}
-use Rattle.engine.specs.declared.table.Inside.{Inside}
+use Rattle.sentences.specs.declared.table.Question.{Question as Kept}
+use Rattle.sentences.specs.declared.table.Open.{Open as Opened}
+use Rattle.sentences.specs.declared.table.Inside.{Inside}
 use Rattle.engine.specs.declared.table.Stop.{Stop}
 use Rattle.engine.specs.declared.table.Stop.the-variants as stop
 use Rattle.engine.specs.declared.table.Phase.{Phase}
 use Rattle.engine.specs.declared.table.Phase.the-variants as phase
 use Rattle.engine.specs.declared.table.Worked.{Worked}
 use Rattle.engine.specs.declared.machine.Machine.{Machine}
-use Rattle.engine.specs.Kept.{question-of}
+use Rattle.sentences.specs.Kept.{question-of}
 use Rattle.engine.specs.States.{parts, progress-of, stop-of}
 use Rattle.engine.specs.Between.{Rests, Between, Went-on}
 use Rattle.engine.proofs.Working.{first-asks}

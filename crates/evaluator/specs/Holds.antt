@@ -13,11 +13,11 @@ use Rattle.terms.specs.Maps.{Map, Meaning}
 use Rattle.rules.specs.Questions.{Question, own}
 use Rattle.rules.specs.Shown.{Shown, unfinished, shows, ended}
 use Rattle.machine.specs.Steps.{after, steps-taken, start}
-use Rattle.engine.specs.declared.table.Question.{Question as Kept}
+use Rattle.sentences.specs.declared.table.Question.{Question as Kept}
 use Rattle.engine.specs.declared.table.Phase.{Phase}
 use Rattle.engine.specs.declared.table.Phase.the-variants as phase
 use Rattle.engine.specs.declared.machine.Machine.{Machine}
-use Rattle.engine.specs.Kept.{question-of}
+use Rattle.sentences.specs.Kept.{question-of}
 use Rattle.engine.specs.States.{stop-of}
 use Rattle.engine.specs.Between.{state-in, Between}
 use Rattle.evaluator.specs.declared.evaluator.Evaluator.{Evaluator}

@@ -2,7 +2,7 @@
 ghost use Prim.Native.Nat.{_≤_};
 ghost use Rattle.terms.specs.Limits.{step-limit};
 use engine::Machine;
-use engine::Question;
+use sentences::Question;
 
 /// The store and the machine over it, the question held, and the steps granted and taken for it.
 #[derive(Drop)]

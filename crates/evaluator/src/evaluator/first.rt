@@ -2,8 +2,8 @@
 ghost use mathlib.Core.Path.{_≡_};
 ghost use Rattle.terms.specs.Maps.{every, atom-in-range};
 ghost use Rattle.evaluator.specs.Holds.{First};
-use engine::Question;
 use path::Path;
+use sentences::Question;
 use terms::Atom;
 use terms::Node;
 use terms::limits::ATOMS;

@@ -6,7 +6,7 @@ ghost use Rattle.evaluator.specs.Promise.{Shows-rightly};
 use super::Evaluator;
 use crate::answers::Outcome;
 use engine::Phase;
-use engine::Question;
+use sentences::Question;
 use stores::Store;
 use terms::Atom;
 

@@ -9,7 +9,7 @@ use Rattle.std.proofs.shelf.Ways.{tells}
 use Rattle.machine.specs.Steps.{whole, inside}
 use Rattle.machine.specs.Items.{working, reached, took}
 use Rattle.path.specs.Atoms.{atoms-of}
-use Rattle.engine.specs.Kept.{position-of}
+use Rattle.sentences.specs.Kept.{position-of}
 use Rattle.engine.specs.States.{positions-of, built-of, built-in, posed, Place-in-range}
 use Rattle.engine.proofs.Stacks.{positions-last, positions-set, built-push, none-long}
 use Rattle.engine.proofs.Working.{at-work, some-is-open, took-close}
@@ -24,8 +24,8 @@ returns-in-rest c =
     let o = some-is-open m (c .pre .works) in
     sym (ap (took (Some item.Close)) (at-work m (c .pre .works) ∙ (ap (λ l. working l (built-in m)) (o .2) ∙ ap (λ l. working (o .0 ∷ o .1) (built-of l v)) (none-long (vec-items (m .insides)) none))))
 
-pub move-on-requires : need.move-on-requires
-move-on-requires c κs =
+pub advance-requires : need.advance-requires
+advance-requires c κs =
     let t = c .args .self .now .table in
     let some : 0 < vec-len t = grind (arith, tells) in
     subst Place-in-range (positions-last (vec-items t) (vec-len t) (t .ok .0) some (c .in-Some-last-mut .top .now) (c .in-Some-last-mut .ensures tt .finds .1 .0)) (c .pre .place)
@@ -42,9 +42,9 @@ returns-in-Some-last-mut c =
     let some : 0 < vec-len t = grind (arith, tells) in
     let below = positions-of (take (vec-len t - 1) (vec-items t)) in
     let e = positions-last (vec-items t) (vec-len t) (t .ok .0) some x (c .in-Some-last-mut .ensures tt .finds .1 .0) in
-    let s = positions-set (vec-items t) (vec-len t) (t .ok .0) some (c .move-on .last .self) in
+    let s = positions-set (vec-items t) (vec-len t) (t .ok .0) some (c .advance .last .top) in
     let g = ap (λ l. built-of l v) (c .in-Some .ensures tt .items) ∙ built-push (vec-items (c .pop .last .self)) i v in
     c .pose .ensures
-    ∙ (ap (λ l. reached (posed r l h)) (s ∙ ap (λ p. p ∷ below) (c .move-on .ensures))
+    ∙ (ap (λ l. reached (posed r l h)) (s ∙ ap (λ p. p ∷ below) (c .advance .ensures))
     ∙ (took-close (position-of x) below h (i .quoting) (i .node) (atoms-of (i .atoms)) r (c .path-asks-asked .ensures)
     ∙ sym (ap (took (Some item.Close)) (at-work m (c .pre .works) ∙ (ap (λ l. working l (built-in m)) e ∙ ap (working (position-of x ∷ below)) g)))))

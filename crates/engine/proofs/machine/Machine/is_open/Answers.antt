@@ -5,7 +5,7 @@ use native.Mathlib.Omega.{arith}
 use lib.ListN.{take}
 use Rattle.std.specs.Of.Vec.{vec-items}
 use Rattle.std.proofs.shelf.Lists.{take-all}
-use Rattle.engine.specs.Kept.{question-of}
+use Rattle.sentences.specs.Kept.{question-of}
 use Rattle.rules.specs.Evaluation.{among}
 use Rattle.machine.specs.Items.{questions-at}
 use Rattle.engine.specs.States.{positions-of}

@@ -4,7 +4,7 @@ use lib.ListN.{take}
 use Rattle.rules.specs.Evaluation.{among}
 use Rattle.machine.specs.Items.{questions-at}
 use Rattle.std.specs.Of.Vec.{vec-items}
-use Rattle.engine.specs.Kept.{question-of}
+use Rattle.sentences.specs.Kept.{question-of}
 use Rattle.engine.specs.States.{positions-of}
 use Rattle.engine.proofs.machine.Machine.is_open.Given as given
 

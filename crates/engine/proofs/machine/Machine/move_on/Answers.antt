@@ -9,8 +9,8 @@ use Rattle.engine.specs.States.{positions-of, top-onward, Place-in-range}
 use Rattle.engine.proofs.Stacks.{positions-last, positions-set, none-long}
 use Rattle.engine.proofs.machine.Machine.move_on.Needs as need
 
-pub move-on-requires : need.move-on-requires
-move-on-requires c κs =
+pub advance-requires : need.advance-requires
+advance-requires c κs =
     let t = c .args .self .now .table in
     let some : 0 < vec-len t = grind (arith, tells) in
     subst Place-in-range (positions-last (vec-items t) (vec-len t) (t .ok .0) some (c .in-Some .top .now) (c .in-Some .ensures tt .finds .1 .0)) (c .pre)
@@ -20,8 +20,8 @@ returns-in-Some c =
     let t = c .args .self .now .table in
     let some : 0 < vec-len t = grind (arith, tells) in
     record {
-      table = positions-set (vec-items t) (vec-len t) (t .ok .0) some (c .move-on .last .self)
-          ∙ (ap (λ p. p ∷ positions-of (take (vec-len t - 1) (vec-items t))) (c .move-on .ensures)
+      table = positions-set (vec-items t) (vec-len t) (t .ok .0) some (c .advance .last .top)
+          ∙ (ap (λ p. p ∷ positions-of (take (vec-len t - 1) (vec-items t))) (c .advance .ensures)
           ∙ sym (ap top-onward (positions-last (vec-items t) (vec-len t) (t .ok .0) some (c .in-Some .top .now) (c .in-Some .ensures tt .finds .1 .0))));
       built = refl;
       phase = refl;

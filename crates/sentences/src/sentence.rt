@@ -5,7 +5,7 @@ ghost use Rattle.terms.specs.Limits.{item-limit};
 ghost use Rattle.rules.specs.Table.{node-asks, path-asks};
 ghost use Rattle.machine.specs.Items.{onward};
 ghost use Rattle.path.specs.Atoms.{atoms-of};
-ghost use Rattle.engine.specs.Kept.{position-of, site-of, Extended, Asks};
+ghost use Rattle.sentences.specs.Kept.{position-of, site-of, Extended, Asks};
 use crate::table::Inside;
 use crate::table::Open;
 use crate::table::Question;
@@ -15,14 +15,6 @@ use terms::Node;
 use terms::Quoting;
 
 impl Open {
-    /// One item further.
-    pub(crate) fn move_on(&mut self)
-        requires { ⌜ now self .place < item-limit ⌝ }
-        ensures { λ _. ⌜ position-of (now (self .exit)) ≡ onward (position-of (now (self .entry))) ⌝ }
-    {
-        self.place += 1;
-    }
-
     /// What the left path leaves of the question's path.
     fn extension(&self) -> &[Atom]
         ensures { λ r. ⌜ now r ≡ site-of (now (self .entry)) .extension ⌝ }
@@ -44,7 +36,7 @@ impl Open {
     }
 
     /// The question that a node asks, or none if its path has over 32 atoms.
-    pub(crate) fn node_asks(&self, quoting: Quoting, node: Node) -> Option<Question>
+    pub fn node_asks(&self, quoting: Quoting, node: Node) -> Option<Question>
         ensures { λ r. ⌜ Asks r (node-asks (site-of (now (self .entry))) quoting node) ⌝ }
     {
         match quoting {
@@ -57,17 +49,19 @@ impl Open {
     }
 
     /// The question that a path asks, or none if its path has over 32 atoms.
-    pub(crate) fn path_asks(&self, inside: Inside) -> Option<Question>
+    pub fn path_asks(&self, inside: Inside) -> Option<Question>
         ensures { λ r. ⌜ Asks r (path-asks (site-of (now (self .entry))) (inside .quoting) (inside .node) (atoms-of (inside .atoms))) ⌝ }
     {
         let Some(path) = self.extended(inside.atoms) else {
             return None;
         };
-        Some(match (inside.quoting, inside.node) {
-            (Quoting::Plain, Some(node)) => self.at.in_context(node, path),
-            (Quoting::Plain, None) => self.at.in_context(self.at.node, path),
-            (Quoting::Quoted, Some(node)) => Question::first(node, path),
-            (Quoting::Quoted, None) => Question::first(self.at.global_node, path),
-        })
+        Some(
+            match (inside.quoting, inside.node) {
+                (Quoting::Plain, Some(node)) => self.at.in_context(node, path),
+                (Quoting::Plain, None) => self.at.in_context(self.at.node, path),
+                (Quoting::Quoted, Some(node)) => Question::first(node, path),
+                (Quoting::Quoted, None) => Question::first(self.at.global_node, path),
+            },
+        )
     }
 }

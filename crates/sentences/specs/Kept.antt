@@ -12,8 +12,8 @@ use Rattle.rules.specs.Table.{Site, site}
 use Rattle.machine.specs.Items.{Position}
 use Rattle.path.specs.declared.Path.{Path}
 use Rattle.path.specs.Atoms.{atoms-of}
-use Rattle.engine.specs.declared.table.Question.{Question as Kept}
-use Rattle.engine.specs.declared.table.Open.{Open}
+use Rattle.sentences.specs.declared.table.Question.{Question as Kept}
+use Rattle.sentences.specs.declared.table.Open.{Open}
 
 abbrev pub question-of : Kept → Question
 question-of q = record { node = q .node; path = atoms-of (q .path); context = record { node = q .«global_node»; path = atoms-of (q .«global_path») } }

@@ -3,7 +3,7 @@ ghost use mathlib.Core.Path.{_≡_};
 ghost use Rattle.rules.specs.Questions.{own, same};
 ghost use Rattle.rules.specs.Evaluation.{same-question};
 ghost use Rattle.path.specs.Atoms.{atoms-of};
-ghost use Rattle.engine.specs.Kept.{question-of};
+ghost use Rattle.sentences.specs.Kept.{question-of};
 use crate::table::Question;
 use path::Path;
 use terms::Atom;
@@ -23,7 +23,7 @@ impl Question {
     }
 
     /// A question in the same context.
-    pub(crate) fn in_context(&self, node: Node, path: Path) -> Question
+    pub fn in_context(&self, node: Node, path: Path) -> Question
         ensures { λ r. ⌜ question-of r ≡ same (question-of (now (self .entry)) .context) node (atoms-of path) ⌝ }
     {
         Question {

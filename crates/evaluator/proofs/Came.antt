@@ -59,7 +59,7 @@ shows-defined M m (Some q) g s h =
     ∙ (ap (λ p. Some (shown-of p)) (h .state) ∙ ap Some (steps-show-the-outcome M (question-of q) g))
 
 reports-defined : (M : Map) (m : Machine) (o : Option Kept) (g s : ℕ) → Holds M m o g s → s ≡ reported-for M (holding o g)
-reports-defined M m None g s h = h
+reports-defined M m None g s h = h .1
 reports-defined M m (Some q) g s h = h .count ∙ steps-taken-are-reported M (question-of q) g
 
 -- what is held after one call more

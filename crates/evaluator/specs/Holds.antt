@@ -64,7 +64,7 @@ pub record Worked-so-far (M : Map) (m : Machine) (q : Question) (granted steps :
   pub count : steps ≡ steps-taken M granted (start q)
 
 abbrev pub Holds : Map → Machine → Option Kept → ℕ → ℕ → Type 0
-Holds M m None granted steps = steps ≡ 0
+Holds M m None granted steps = (granted ≡ 0) × (steps ≡ 0)
 Holds M m (Some q) granted steps = Worked-so-far M m (question-of q) granted steps
 
 -- e came about by these calls, from a new evaluator: it holds what they settle, in the state that the steps granted give

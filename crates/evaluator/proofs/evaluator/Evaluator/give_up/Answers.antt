@@ -13,4 +13,4 @@ pub returns : need.returns
 returns g c =
     let e = c .args .self .now in
     passed-does (g .S·Store .means) e _ gives-up
-    (idle-no (e .question) (e .machine .phase) (vec-items (e .machine .value)) (c .in-Some .field-0) (c .in-Some .is)) refl refl (λ _. refl)
+    (idle-no (e .question) (e .machine .phase) (vec-items (e .machine .value)) (c .in-Some .field-0) (c .in-Some .is)) refl refl (λ _. (refl, refl))

@@ -1,10 +1,9 @@
 // Steps of a machine over a store.
 ghost use mathlib.Core.Path.{_≡_};
 ghost use Prim.Native.Nat.{_+_, _-_, _*_, _<_, _≤_};
-ghost use Rattle.machine.specs.Items.{took};
-ghost use Rattle.machine.specs.Bounds.{Insides-match, work-left, asked-limit};
+ghost use Rattle.machine.specs.Bounds.{work-left, asked-limit};
 ghost use Rattle.engine.specs.States.{progress-of, positions-in};
-ghost use Rattle.engine.specs.Between.{next-item, Rests, Between, Steps-on, Went-on};
+ghost use Rattle.engine.specs.Between.{next-item, Rests, Takes-an-item, Takes-a-step, Takes-steps};
 use crate::machine::Machine;
 use crate::table::Phase;
 use crate::table::Worked;
@@ -25,7 +24,7 @@ fn wanted<S: Store>(store: &S, machine: &Machine) -> Option<Item>
 fn turn<S: Store>(store: &S, machine: &mut Machine)
     requires works { ⌜ now machine .phase ≡ Phase.Works ⌝ }
     ensures less { λ _. ⌜ work-left (progress-of (now (machine .exit))) < work-left (progress-of (now (machine .entry))) ⌝ }
-    ensures took { λ _. ⌜ (Insides-match (S·Store .means (now (store .entry)) .map) (progress-of (now (machine .entry))) → progress-of (now (machine .exit)) ≡ took (next-item (S·Store .means (now (store .entry)) .map) (positions-in (now (machine .entry)))) (progress-of (now (machine .entry)))) ⌝ }
+    ensures took { λ _. ⌜ Takes-an-item (S·Store .means (now (store .entry))) (now (machine .entry)) (now (machine .exit)) ⌝ }
 {
     let item = wanted(store, machine);
     if machine.has_room(item) {
@@ -40,7 +39,7 @@ fn step<S: Store>(store: &S, machine: &mut Machine) -> u64
     requires asks { ⌜ now machine .phase ≡ Phase.Asks ⌝ }
     ensures bounded { λ r. ⌜ r ≤ asked-limit ⌝ }
     ensures rests { λ _. ⌜ Rests (now (machine .exit) .phase) ⌝ }
-    ensures steps { λ r. ⌜ (Insides-match (S·Store .means (now (store .entry)) .map) (progress-of (now (machine .entry))) → Steps-on (S·Store .means (now (store .entry)) .map) (now (machine .entry)) (now (machine .exit)) r) ⌝ }
+    ensures steps { λ r. ⌜ Takes-a-step (S·Store .means (now (store .entry))) (now (machine .entry)) (now (machine .exit)) r ⌝ }
 {
     let left = store.find(machine.asked.node, machine.asked.path.as_slice());
     machine.found(left);
@@ -57,7 +56,7 @@ impl Machine {
     pub fn work<S: Store>(&mut self, store: &S, granted: u32) -> Worked
         ensures most { λ r. ⌜ r .steps ≤ granted ⌝ }
         ensures bounded { λ r. ⌜ r .requests ≤ asked-limit * r .steps ⌝ }
-        ensures went { λ r. ⌜ (Between (S·Store .means (now (store .entry)) .map) (now (self .entry)) → Went-on (S·Store .means (now (store .entry)) .map) granted (now (self .entry)) (now (self .exit)) r) ⌝ }
+        ensures went { λ r. ⌜ Takes-steps (S·Store .means (now (store .entry))) granted (now (self .entry)) (now (self .exit)) r ⌝ }
     {
         let mut steps: u32 = 0;
         let mut requests: u64 = 0;

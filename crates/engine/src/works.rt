@@ -2,7 +2,7 @@
 ghost use mathlib.Core.Path.{_≡_};
 ghost use mathlib.Core.List.{[]};
 ghost use Prim.Native.Nat.{_-_, _<_};
-ghost use Rattle.std.specs.Of.Vec.{vec-items, vec-len};
+ghost use Rattle.std.specs.Of.Vec.{vec-len};
 ghost use Rattle.std.specs.declared.option.Option.the-variants.{Some, None};
 ghost use Rattle.rules.specs.Evaluation.{among};
 ghost use Rattle.machine.specs.Steps.{Built, inside, asks, stops};
@@ -14,12 +14,12 @@ ghost use Rattle.engine.specs.States.{progress-of, posed, built-in, positions-
 ghost use Rattle.terms.specs.declared.items.Item.the-variants as item;
 ghost use Rattle.rules.specs.Outcomes as outcomes;
 use crate::machine::Machine;
-use sentences::Inside;
-use sentences::Open;
 use crate::table::Phase;
-use sentences::Question;
 use crate::table::Stop;
 use path::Path;
+use sentences::Inside;
+use sentences::Open;
+use sentences::Question;
 use std::alloc::AllocError;
 use std::alloc::Global;
 use terms::Atom;

@@ -40,7 +40,7 @@ use Rattle.evaluator.specs.declared.evaluator.Evaluator.{Evaluator}
 use Rattle.evaluator.specs.Calls.{Act, works, Grants-add-up, act-of, acts-of, Holding, shown-for, reported-for, refused, while-idle, while-unfinished, passed, granted-more, unless-refused, held-after, held-from, held}
 use Rattle.evaluator.specs.Shown.{outcome-of, stopped-by, atom-at, atom-of}
 use Rattle.evaluator.specs.Holds.{holding, holding-of, shown-in, shown-by, Worked-so-far, Holds, Came-by}
-use Rattle.evaluator.specs.Promise.{Right, Right-after, Does, New, Same-map}
+use Rattle.evaluator.specs.Promise.{By-the-rules, By-the-rules-after, Called, New, Same-map}
 use Rattle.evaluator.proofs.Right.{right}
 
 -- what the machine's phase shows
@@ -70,7 +70,7 @@ held-one-more M h [] a = refl
 held-one-more M h (b ∷ acts) a = held-one-more M (held-after (shown-for M h) h b) acts a
 
 module _ {S : Type 0} (means : S → Meaning) where
-  pub right-after : (before : List Act) (e : Evaluator S) → Came-by means before e → Right-after means before e
+  pub right-after : (before : List Act) (e : Evaluator S) → Came-by means before e → By-the-rules-after means before e
   right-after before e c =
       let M = means (e .store) .map in
       right M (held M before) (shown-by e) (e .steps)
@@ -92,7 +92,7 @@ module _ {S : Type 0} (means : S → Meaning) where
           state = subst (λ t. Holds (means t .map) (z .machine) (z .question) (z .granted) (z .steps)) (sym s) (k (c .state));
         }
 
-    pub does : (number : Option ℕ) → number ≡ refused (shown-by e) a → ((n : ℕ) → number ≡ Some n → z ≡ e) → Does means e a number z
+    pub does : (number : Option ℕ) → number ≡ refused (shown-by e) a → ((n : ℕ) → number ≡ Some n → z ≡ e) → Called means e a number z
     does number r n = record {
       refused-as-defined = r;
       held-as-defined = h;
@@ -102,7 +102,7 @@ module _ {S : Type 0} (means : S → Meaning) where
       right = λ before c. right-after (before ++ a ∷ []) z (came-on before c);
     }
 
-  pub refused-does : (e : Evaluator S) (a : Act) (n : ℕ) → refused (shown-by e) a ≡ Some n → Does means e a (Some n) e
+  pub refused-does : (e : Evaluator S) (a : Act) (n : ℕ) → refused (shown-by e) a ≡ Some n → Called means e a (Some n) e
   refused-does e a n h =
       does e e a refl (sym (ap (λ r. unless-refused r (holding-of e) (passed (holding-of e) a)) h)) (λ s. s) (Some n) (sym h) (λ _ _. refl)
 
@@ -112,7 +112,7 @@ module _ {S : Type 0} (means : S → Meaning) where
   pub passed-does : (e z : Evaluator S) (a : Act) → refused (shown-by e) a ≡ None → z .store ≡ e .store → holding-of z ≡ passed (holding-of e) a
       → (Holds (means (e .store) .map) (e .machine) (e .question) (e .granted) (e .steps)
       → Holds (means (e .store) .map) (z .machine) (z .question) (z .granted) (z .steps))
-      → Does means e a None z
+      → Called means e a None z
   passed-does e z a h s p k =
       does e z a s (p ∙ sym (ap (λ r. unless-refused r (holding-of e) (passed (holding-of e) a)) h)) k None (sym h) (λ n x. absurd (none-some n x))
 
@@ -127,8 +127,8 @@ alike means means′ e z acts same c d =
     let M : Map = means (e .store) .map in
     let N : Map = means′ (z .store) .map in
     let m : M ≡ N = λ i n l. same n l i in
-    let r : Right M (held M acts) (shown-by e) (e .steps) = right-after means acts e c in
-    let q : Right N (held N acts) (shown-by z) (z .steps) = right-after means′ acts z d in (
+    let r : By-the-rules M (held M acts) (shown-by e) (e .steps) = right-after means acts e c in
+    let q : By-the-rules N (held N acts) (shown-by z) (z .steps) = right-after means′ acts z d in (
       r .shown-as-defined ∙ (ap (λ (K : Map). shown-for K (held K acts)) m ∙ sym (q .shown-as-defined)),
       r .steps-as-defined ∙ (ap (λ (K : Map). reported-for K (held K acts)) m ∙ sym (q .steps-as-defined)),
     )

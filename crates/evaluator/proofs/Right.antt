@@ -12,7 +12,7 @@ use Rattle.rules.specs.Evaluation.{outcome}
 use Rattle.rules.specs.Shown.{Shown, steps}
 use Rattle.rules.proofs.Shown.{all-is-shown-by-the-rules}
 use Rattle.evaluator.specs.Calls.{Holding, shown-for, reported-for}
-use Rattle.evaluator.specs.Promise.{Derived-in-time, Right}
+use Rattle.evaluator.specs.Promise.{Derived-in-time, By-the-rules}
 
 some-same : {A : Type 0} (a b : A) → _≡_ {A = Option A} (Some a) (Some b) → a ≡ b
 some-same a b e = cc
@@ -23,7 +23,7 @@ none-some a e = let z : _≡_ {A = ℕ} 0 1 = cc in omega arith
 some-none : {A : Type 0} (a : A) → _≡_ {A = Option A} (Some a) None → ⊥
 some-none a e = let z : _≡_ {A = ℕ} 0 1 = cc in omega arith
 
-defined-right : (M : Map) (h : Option Holding) → Right M h (shown-for M h) (reported-for M h)
+defined-right : (M : Map) (h : Option Holding) → By-the-rules M h (shown-for M h) (reported-for M h)
 defined-right M None = record {
   shown-as-defined = refl;
   steps-as-defined = refl;
@@ -58,5 +58,5 @@ defined-right M (Some a) =
           (t .uses-are-the-steps v (some-same _ _ x));
     }
 
-pub right : (M : Map) (h : Option Holding) (out : Option Shown) (n : ℕ) → out ≡ shown-for M h → n ≡ reported-for M h → Right M h out n
-right M h out n e f = subst (λ x. Right M h x n) (sym e) (subst (λ k. Right M h (shown-for M h) k) (sym f) (defined-right M h))
+pub right : (M : Map) (h : Option Holding) (out : Option Shown) (n : ℕ) → out ≡ shown-for M h → n ≡ reported-for M h → By-the-rules M h out n
+right M h out n e f = subst (λ x. By-the-rules M h x n) (sym e) (subst (λ k. By-the-rules M h (shown-for M h) k) (sym f) (defined-right M h))

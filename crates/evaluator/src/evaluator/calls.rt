@@ -1,12 +1,10 @@
 // Begin, work and give up.
 ghost use mathlib.Core.Path.{_≡_};
-ghost use mathlib.Core.List.{List};
 ghost use Prim.Native.Nat.{_+_, _-_, _*_, _<_, _≤_, min};
 ghost use Rattle.std.specs.Vec.{made};
 ghost use Rattle.machine.specs.Bounds.{asked-limit};
-ghost use Rattle.evaluator.specs.Calls.{Act, begins, works, gives-up, act-of, numbered, Grants-add-up};
-ghost use Rattle.evaluator.specs.Holds.{Came-by, shown-by};
-ghost use Rattle.evaluator.specs.Promise.{Does, New, Requests, Same-map};
+ghost use Rattle.evaluator.specs.Calls.{begins, works, gives-up, act-of, numbered, Grants-add-up};
+ghost use Rattle.evaluator.specs.Promise.{Called, New, Requests, Shows-alike};
 use super::Evaluator;
 use super::first;
 use crate::answers::Call;
@@ -65,7 +63,7 @@ impl<S: Store> Evaluator<S> {
 
     /// Sets a first question, which is its own context.
     pub fn begin(&mut self, node: Node, path: &[Atom]) -> Result<(), Refusal>
-        ensures { λ r. ⌜ Does (S·Store .means) (now (self .entry)) (begins node (now (path .entry))) (numbered r) (now (self .exit)) ⌝ }
+        ensures { λ r. ⌜ Called (S·Store .means) (now (self .entry)) (begins node (now (path .entry))) (numbered r) (now (self .exit)) ⌝ }
     {
         let Some(question) = first::first_question(node, path) else {
             return Err(Refusal::OutOfRange);
@@ -82,7 +80,7 @@ impl<S: Store> Evaluator<S> {
 
     /// Takes so many steps more, up to the outcome and to 1,000,000 for one question; and says how often the store was asked for them.
     pub fn work_counting(&mut self, number: u32) -> Result<u64, Refusal>
-        ensures does { λ r. ⌜ Does (S·Store .means) (now (self .entry)) (works number) (numbered r) (now (self .exit)) ⌝ }
+        ensures does { λ r. ⌜ Called (S·Store .means) (now (self .entry)) (works number) (numbered r) (now (self .exit)) ⌝ }
         ensures bounded { λ r. ⌜ made r (λ n. n ≤ asked-limit * (now (self .exit) .steps - now (self .entry) .steps)) ⌝ }
         ensures requests { λ r. ⌜ made r (λ n. Requests (S·Store .means) (now (self .entry)) n (now (self .exit))) ⌝ }
     {
@@ -98,7 +96,7 @@ impl<S: Store> Evaluator<S> {
 
     /// Takes so many steps more, up to the outcome and to 1,000,000 for one question.
     pub fn work(&mut self, number: u32) -> Result<(), Refusal>
-        ensures { λ r. ⌜ Does (S·Store .means) (now (self .entry)) (works number) (numbered r) (now (self .exit)) ⌝ }
+        ensures { λ r. ⌜ Called (S·Store .means) (now (self .entry)) (works number) (numbered r) (now (self .exit)) ⌝ }
     {
         match self.work_counting(number) {
             Ok(_) => Ok(()),
@@ -108,7 +106,7 @@ impl<S: Store> Evaluator<S> {
 
     /// Gives the question up.
     pub fn give_up(&mut self) -> Result<(), Refusal>
-        ensures { λ r. ⌜ Does (S·Store .means) (now (self .entry)) gives-up (numbered r) (now (self .exit)) ⌝ }
+        ensures { λ r. ⌜ Called (S·Store .means) (now (self .entry)) gives-up (numbered r) (now (self .exit)) ⌝ }
     {
         let Some(_) = self.question else {
             return Err(Refusal::Idle);
@@ -121,7 +119,7 @@ impl<S: Store> Evaluator<S> {
 
     /// A call that is given as a value.
     pub fn call(&mut self, call: Call) -> Result<(), Refusal>
-        ensures { λ r. ⌜ Does (S·Store .means) (now (self .entry)) (act-of (call .entry)) (numbered r) (now (self .exit)) ⌝ }
+        ensures { λ r. ⌜ Called (S·Store .means) (now (self .entry)) (act-of (call .entry)) (numbered r) (now (self .exit)) ⌝ }
     {
         match call {
             Call::Begin(node, path) => self.begin(node, path),
@@ -143,7 +141,7 @@ impl<S: Store + Drop> Evaluator<S> {
 
 /// After the same calls two evaluators over stores of the same map show the same.
 pub fn answered_alike<S: Store, R: Store>(one: &Evaluator<S>, other: &Evaluator<R>) -> u8
-    ensures { λ _. ⌜ ((acts : List Act) → Same-map (S·Store .means (now (one .entry) .store) .map) (R·Store .means (now (other .entry) .store) .map) → Came-by (S·Store .means) acts (now (one .entry)) → Came-by (R·Store .means) acts (now (other .entry)) → (shown-by (now (one .entry)) ≡ shown-by (now (other .entry))) × (now (one .entry) .steps ≡ now (other .entry) .steps)) ⌝ }
+    ensures { λ _. ⌜ Shows-alike (S·Store .means) (R·Store .means) (now (one .entry)) (now (other .entry)) ⌝ }
 {
     0
 }

@@ -2,7 +2,7 @@ use mathlib.Core.Path.{subst, _∙_}
 use mathlib.Core.List.{[]}
 use Rattle.evaluator.specs.Calls.{acts-of, held}
 use Rattle.evaluator.specs.Holds.{shown-by}
-use Rattle.evaluator.specs.Promise.{Right}
+use Rattle.evaluator.specs.Promise.{By-the-rules}
 use Rattle.evaluator.proofs.Came.{right-after}
 use Rattle.evaluator.proofs.evaluator.runs.evaluate.Needs as need
 
@@ -17,5 +17,5 @@ returns g c =
     record {
       over = o;
       came = a;
-      right = subst (λ s. Right (means s .map) (held (means s .map) acts) (shown-by z) (z .steps)) o (right-after means acts z a);
+      right = subst (λ s. By-the-rules (means s .map) (held (means s .map) acts) (shown-by z) (z .steps)) o (right-after means acts z a);
     }

@@ -258,3 +258,8 @@ after-all M h (a ∷ acts) ds es f = after-all M (held-after (shown-for M h) h a
 
 pub grants-add-up : Grants-add-up
 grants-add-up M acts m n = after-all M None acts (works m ∷ works n ∷ []) (works (m + n) ∷ []) (λ k. grants M k m n)
+
+-- a call that is given as a value
+pub called-as : {S : Type 0} (means : S → Meaning) (e z : Evaluator S) (number : Option ℕ) (c d : Call) → c ≡ d
+    → Called means e (act-of d) number z → Called means e (act-of c) number z
+called-as means e z number c d same h = subst (λ x. Called means e (act-of x) number z) (sym same) h

@@ -56,6 +56,16 @@ pub record New {S : Type 0} (means : S → Meaning) (store : S) (e : Evaluator S
   pub came : Came-by means [] e
   pub right : By-the-rules-after means [] e
 
+-- The same whatever the store means, of what never asks it.
+abbrev pub Called-over-any-store : {S : Type 0} → Evaluator S → Act → Option ℕ → Evaluator S → Type 0
+Called-over-any-store {S} e a number z = (means : S → Meaning) → Called means e a number z
+
+abbrev pub New-over-any-store : {S : Type 0} → S → Evaluator S → Type 0
+New-over-any-store {S} store e = (means : S → Meaning) → New means store e
+
+abbrev pub Shown-over-any-store : {S : Type 0} → Evaluator S → Type 0
+Shown-over-any-store {S} e = (means : S → Meaning) → Shows-by-the-rules means e
+
 -- The whole theorem: an evaluator that is new over a store and then gets these calls.
 pub record Evaluated {S : Type 0} (means : S → Meaning) (store : S) (acts : List Act) (e : Evaluator S) : Type 0 where
   pub over : e .store ≡ store

@@ -16,7 +16,9 @@ pub struct Evaluator<S> {
     ghost within: { steps ≤ granted },
 }
 
-pub mod calls;
+mod calls;
 mod first;
+mod made;
 pub mod runs;
 mod shown;
+mod work;

@@ -6,6 +6,6 @@ pub use answers::Call;
 pub use answers::Outcome;
 pub use answers::Refusal;
 pub use evaluator::Evaluator;
-pub use evaluator::calls::answered_alike;
-pub use evaluator::calls::grants_add_up;
+pub use evaluator::runs::answered_alike;
 pub use evaluator::runs::evaluate;
+pub use evaluator::runs::grants_add_up;

@@ -1,9 +1,9 @@
-// A list of calls.
+// A list of calls, and what holds of all such lists.
 ghost use mathlib.Core.Path.{_≡_};
 ghost use mathlib.Core.List.{List, _++_};
-ghost use Rattle.evaluator.specs.Calls.{Act, acts-of};
+ghost use Rattle.evaluator.specs.Calls.{Act, acts-of, Grants-add-up};
 ghost use Rattle.evaluator.specs.Holds.{Came-by};
-ghost use Rattle.evaluator.specs.Promise.{Evaluated};
+ghost use Rattle.evaluator.specs.Promise.{Evaluated, Shows-alike};
 use super::Evaluator;
 use crate::answers::Call;
 use engine::Machine;
@@ -28,4 +28,18 @@ pub fn evaluate<S: Store>(machine: Machine, store: S, calls: &[Call]) -> Evaluat
     let mut evaluator = Evaluator::over(machine, store);
     evaluator.run(calls);
     evaluator
+}
+
+/// After the same calls two evaluators over stores of the same map show the same.
+pub fn answered_alike<S: Store, R: Store>(one: &Evaluator<S>, other: &Evaluator<R>) -> u8
+    ensures { λ _. ⌜ Shows-alike (S·Store .means) (R·Store .means) (now (one .entry)) (now (other .entry)) ⌝ }
+{
+    0
+}
+
+/// Granting m steps and then n is granting m + n.
+pub fn grants_add_up() -> u8
+    ensures { λ _. ⌜ Grants-add-up ⌝ }
+{
+    0
 }

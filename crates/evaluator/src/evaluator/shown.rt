@@ -1,20 +1,19 @@
-// What an evaluator shows.
+// What an evaluator shows, for whatever its store means.
 ghost use mathlib.Core.Path.{_≡_};
 ghost use Rattle.evaluator.specs.Shown.{outcome-of, atom-of};
 ghost use Rattle.evaluator.specs.Holds.{holding-of, question-lent, question-in, shown-by};
-ghost use Rattle.evaluator.specs.Promise.{Shows-by-the-rules};
+ghost use Rattle.evaluator.specs.Promise.{Shown-over-any-store};
 use super::Evaluator;
 use crate::answers::Outcome;
 use engine::Phase;
 use sentences::Question;
-use stores::Store;
 use terms::Atom;
 
-impl<S: Store> Evaluator<S> {
+impl<S> Evaluator<S> {
     /// Idle, unfinished, or the outcome of the question held.
     pub fn outcome(&self) -> Outcome
         ensures shown { λ r. ⌜ r ≡ outcome-of (shown-by (now (self .entry))) ⌝ }
-        ensures right { λ _. ⌜ Shows-by-the-rules (S·Store .means) (now (self .entry)) ⌝ }
+        ensures right { λ _. ⌜ Shown-over-any-store (now (self .entry)) ⌝ }
     {
         let Some(_) = self.question else {
             return Outcome::Idle;
@@ -30,7 +29,7 @@ impl<S: Store> Evaluator<S> {
     /// The question held, or none while idle.
     pub fn question(&self) -> Option<&Question>
         ensures shown { λ r. ⌜ question-lent r ≡ question-in (holding-of (now (self .entry))) ⌝ }
-        ensures right { λ _. ⌜ Shows-by-the-rules (S·Store .means) (now (self .entry)) ⌝ }
+        ensures right { λ _. ⌜ Shown-over-any-store (now (self .entry)) ⌝ }
     {
         match &self.question {
             Some(question) => Some(question),
@@ -41,7 +40,7 @@ impl<S: Store> Evaluator<S> {
     /// The steps taken for the question held.
     pub fn steps(&self) -> u32
         ensures shown { λ r. ⌜ r ≡ now (self .entry) .steps ⌝ }
-        ensures right { λ _. ⌜ Shows-by-the-rules (S·Store .means) (now (self .entry)) ⌝ }
+        ensures right { λ _. ⌜ Shown-over-any-store (now (self .entry)) ⌝ }
     {
         self.steps
     }
@@ -49,7 +48,7 @@ impl<S: Store> Evaluator<S> {
     /// The atom at a place of the value, or none past its end; without a value none.
     pub fn atom(&self, place: usize) -> Option<Atom>
         ensures shown { λ r. ⌜ r ≡ atom-of (shown-by (now (self .entry))) place ⌝ }
-        ensures right { λ _. ⌜ Shows-by-the-rules (S·Store .means) (now (self .entry)) ⌝ }
+        ensures right { λ _. ⌜ Shown-over-any-store (now (self .entry)) ⌝ }
     {
         let Some(_) = self.question else {
             return None;

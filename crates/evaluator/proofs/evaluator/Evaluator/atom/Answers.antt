@@ -11,7 +11,7 @@ returns-in-rest-phase g c =
     record {
       shown = no-value (e .question) (e .machine .phase) (vec-items (e .machine .value)) (c .args .place)
           (λ x. c .in-rest-phase .not-Has (c .phase .ensures ∙ sym x));
-      right = λ acts a. right-after (g .S·Store .means) acts e a;
+      right = λ means acts a. right-after means acts e a;
     }
 
 pub returns-then-place-value : need.returns-then-place-value
@@ -22,7 +22,7 @@ returns-then-place-value g c =
           at-some (c .value-value .result .now) (c .args .place) (record { 0 = 0 }) (c .if-place-value .taken)
           ∙ (ap (λ v. atom-at v (c .args .place)) (c .value-value .ensures)
           ∙ atom-in (e .question) (e .machine .phase) phase.Has (vec-items (e .machine .value)) (c .in-Some .field-0) (c .args .place) (c .in-Some .is) (c .in-Has .ensures tt));
-      right = λ acts a. right-after (g .S·Store .means) acts e a;
+      right = λ means acts a. right-after means acts e a;
     }
 
 pub returns-else-place-value : need.returns-else-place-value
@@ -33,5 +33,5 @@ returns-else-place-value g c =
           at-none (c .value-value .result .now) (c .args .place) (c .if-place-value .left)
           ∙ (ap (λ v. atom-at v (c .args .place)) (c .value-value .ensures)
           ∙ atom-in (e .question) (e .machine .phase) phase.Has (vec-items (e .machine .value)) (c .in-Some .field-0) (c .args .place) (c .in-Some .is) (c .in-Has .ensures tt));
-      right = λ acts a. right-after (g .S·Store .means) acts e a;
+      right = λ means acts a. right-after means acts e a;
     }

@@ -10,7 +10,7 @@ returns-in-Asks g c =
     let e = c .args .self .now in
     record {
       shown = outcome-in (e .question) (e .machine .phase) phase.Asks (vec-items (e .machine .value)) (c .in-Some .field-0) (c .in-Some .is) (c .in-Asks .ensures tt);
-      right = λ acts a. right-after (g .S·Store .means) acts e a;
+      right = λ means acts a. right-after means acts e a;
     }
 
 pub returns-in-Has : need.returns-in-Has
@@ -18,7 +18,7 @@ returns-in-Has g c =
     let e = c .args .self .now in
     record {
       shown = outcome-in (e .question) (e .machine .phase) phase.Has (vec-items (e .machine .value)) (c .in-Some .field-0) (c .in-Some .is) (c .in-Has .ensures tt);
-      right = λ acts a. right-after (g .S·Store .means) acts e a;
+      right = λ means acts a. right-after means acts e a;
     }
 
 pub returns-in-Stops : need.returns-in-Stops
@@ -28,5 +28,5 @@ returns-in-Stops g c =
       shown =
           ap answer.Stopped (stops-back (c .in-Stops .stop))
           ∙ outcome-in (e .question) (e .machine .phase) (phase.Stops (c .in-Stops .stop)) (vec-items (e .machine .value)) (c .in-Some .field-0) (c .in-Some .is) (c .in-Stops .ensures tt);
-      right = λ acts a. right-after (g .S·Store .means) acts e a;
+      right = λ means acts a. right-after means acts e a;
     }

@@ -5,4 +5,4 @@ use Rattle.evaluator.proofs.evaluator.Evaluator.over.Needs as need
 
 pub returns : need.returns
 unfolding held-from
-returns g c = new (g .S·Store .means) _ (record { held = refl; state = (refl, refl) })
+returns g c = λ means. new means _ (record { held = refl; state = (refl, refl) })

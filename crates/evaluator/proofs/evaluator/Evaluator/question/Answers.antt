@@ -8,5 +8,5 @@ returns-in-Some g c =
     let e = c .args .self .now in
     record {
       shown = sym (ap (λ o. question-in (holding o (e .granted))) (c .in-Some .is));
-      right = λ acts a. right-after (g .S·Store .means) acts e a;
+      right = λ means acts a. right-after means acts e a;
     }

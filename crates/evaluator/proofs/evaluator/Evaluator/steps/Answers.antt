@@ -3,4 +3,4 @@ use Rattle.evaluator.proofs.Came.{right-after}
 use Rattle.evaluator.proofs.evaluator.Evaluator.steps.Needs as need
 
 pub returns : need.returns
-returns g c = record { shown = refl; right = λ acts a. right-after (g .S·Store .means) acts (c .args .self .now) a }
+returns g c = record { shown = refl; right = λ means acts a. right-after means acts (c .args .self .now) a }

@@ -11,7 +11,7 @@ returns g c =
     let means = g .S·Store .means in
     let z = c .run .last .self in
     let acts = acts-of (c .args .calls .now) in
-    let m = c .over-evaluator .ensures in
+    let m = c .over-evaluator .ensures means in
     let o = c .run .ensures .store ∙ m .over in
     let a = c .run .ensures .came [] (m .came) in
     record {

@@ -1,11 +1,12 @@
 // What the answer of a look-up and an item do to a machine.
 ghost use mathlib.Core.Path.{_≡_};
 ghost use mathlib.Core.List.{[]};
-ghost use Prim.Native.Nat.{_-_, _<_};
+ghost use Prim.Native.Nat.{_<_};
 ghost use Rattle.std.specs.Of.Vec.{vec-len};
+ghost use Rattle.std.specs.Vec.{made};
 ghost use Rattle.std.specs.declared.option.Option.the-variants.{Some, None};
 ghost use Rattle.rules.specs.Evaluation.{among};
-ghost use Rattle.machine.specs.Steps.{Built, inside, asks, stops};
+ghost use Rattle.machine.specs.Steps.{Built, asks, has, stops};
 ghost use Rattle.machine.specs.Bounds.{inside-limit};
 ghost use Rattle.terms.specs.Limits.{item-limit};
 ghost use Rattle.machine.specs.Items.{onward, reached, took, questions-at};
@@ -244,15 +245,11 @@ impl Machine {
         self.value.clear();
     }
 
-    /// A machine with room for all that it may hold.
-    pub fn new(heap: Global) -> Result<Machine, AllocError> {
-        let none = Path::new();
-        let asked = Question {
-            node: Node(0),
-            path: none,
-            global_node: Node(0),
-            global_path: none,
-        };
+    /// A machine with room for all that it may hold; it holds no atom.
+    pub fn new(heap: Global) -> Result<Machine, AllocError>
+        ensures { λ r. ⌜ made r (λ m. progress-of m ≡ reached (has [])) ⌝ }
+    {
+        let asked = Question::first(Node(0), Path::new());
         let table = Vec::with_capacity(heap, OPEN_SENTENCES)?;
         let insides = Vec::with_capacity(heap, INSIDES)?;
         let value = Vec::with_capacity(heap, VALUE_ATOMS)?;

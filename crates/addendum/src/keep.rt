@@ -18,16 +18,22 @@ use terms::Item;
 use terms::Node;
 
 impl Addendum {
+    // What it keeps at most.
+    fn most() -> Room
+        ensures { λ r. ⌜ r ≡ record { sentences = 256; atoms = 1024; items = 2048 } ⌝ }
+    {
+        Room {
+            sentences: Self::SENTENCES,
+            atoms: Self::ATOMS,
+            items: Self::ITEMS,
+        }
+    }
+
     /// Nothing kept, with all the memory that it will ever take.
     pub fn new(heap: Global) -> Result<Addendum, AllocError>
         ensures { λ r. ⌜ made r (λ s. kept-in s ≡ []) ⌝ }
     {
-        let room = Room {
-            sentences: 256,
-            atoms: 1024,
-            items: 2048,
-        };
-        let list = Listed::new(heap, room, 255)?;
+        let list = Listed::new(heap, Self::most(), 255)?;
         Ok(Addendum { list })
     }
 
@@ -67,11 +73,6 @@ pub impl Keeper for Addendum as AddendumKeeper {
     }
 
     fn add(&mut self, node: Node, left: &[Atom], right: &[Item]) -> Result<(), Refusal> {
-        let most = Room {
-            sentences: Self::SENTENCES,
-            atoms: Self::ATOMS,
-            items: Self::ITEMS,
-        };
-        self.list.add(most, node, left, right)
+        self.list.add(Self::most(), node, left, right)
     }
 }

@@ -9,11 +9,11 @@ use Rattle.std.specs.declared.option.Option.{Option}
 use Rattle.std.specs.declared.option.Option.the-variants.{Some, None}
 use lib.Dec.{eqb}
 use lib.ListN.{set, replicate}
-use mathlib.Core.Logic.{⊎-elim, _≢_}
+use mathlib.Core.Logic.{⊎-elim}
 use Rattle.std.proofs.shelf.Lists.{getD-set-same, getD-set-other, length-set, getD-append-left, getD-push, length-push, take-append-le, take-at, getD-replicate, length-replicate, getD-read}
 use Rattle.std.proofs.shelf.Tests.{cases-eq, eq-eqb, ne-eqb, eqb-true}
 use Rattle.std.proofs.str.Laws.{order}
-use Rattle.chains.specs.Last.{or-here, last-by, earlier, up-to}
+use Rattle.chains.specs.Last.{or-here, last-by, up-to}
 
 never : {P : Type 0} → true ≡ false → P
 never e = absurd (let z : _≡_ {A = ℕ} 0 1 = cc in omega arith)

@@ -1,8 +1,8 @@
 -- Going back along a chain in search of the last element that passes f.
-use mathlib.Core.Path.{_≡_, refl, sym, ap, subst, _∙_}
+use mathlib.Core.Path.{_≡_, sym, ap, _∙_}
 use mathlib.Core.Bool.{Bool, true, false, cond}
-use mathlib.Core.List.{List, [], _∷_, _++_, map}
-use Prim.Native.Nat.{ℕ, zero, suc, _+_, _<_, _≤_}
+use mathlib.Core.List.{List, map}
+use Prim.Native.Nat.{ℕ, suc, _+_, _<_, _≤_}
 use native.Mathlib.Omega.{arith}
 use lib.Dec.{eqb, ltb}
 use lib.ListN.{length, take, getD, length-map}
@@ -10,7 +10,7 @@ use Rattle.std.proofs.shelf.Lists.{take-more, take-take, length-take-le, getD-t
 use Rattle.std.proofs.shelf.Tests.{eqb-true, cond-true, lt-ltb}
 use Rattle.std.specs.declared.option.Option.{Option}
 use Rattle.std.specs.declared.option.Option.the-variants.{Some, None}
-use Rattle.chains.specs.Last.{or-here, last-by, earlier, up-to}
+use Rattle.chains.specs.Last.{last-by, earlier, up-to}
 use Rattle.chains.proofs.Lasts.{last-push, last-within, last-holds, last-skip, last-map}
 
 -- an entry of a bucket, or none

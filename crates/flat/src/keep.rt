@@ -16,16 +16,22 @@ use terms::Item;
 use terms::Node;
 
 impl FlatList {
+    // What it keeps at most.
+    fn most() -> Room
+        ensures { λ r. ⌜ r ≡ record { sentences = 4096; atoms = 16384; items = 32768 } ⌝ }
+    {
+        Room {
+            sentences: Self::SENTENCES,
+            atoms: Self::ATOMS,
+            items: Self::ITEMS,
+        }
+    }
+
     /// Nothing kept, with all the memory that it will ever take.
     pub fn new(heap: Global) -> Result<FlatList, AllocError>
         ensures { λ r. ⌜ made r (λ s. kept-in s ≡ []) ⌝ }
     {
-        let room = Room {
-            sentences: 4096,
-            atoms: 16384,
-            items: 32768,
-        };
-        let list = Listed::new(heap, room, 4095)?;
+        let list = Listed::new(heap, Self::most(), 4095)?;
         Ok(FlatList { list })
     }
 }
@@ -58,11 +64,6 @@ pub impl Keeper for FlatList as FlatListKeeper {
     }
 
     fn add(&mut self, node: Node, left: &[Atom], right: &[Item]) -> Result<(), Refusal> {
-        let most = Room {
-            sentences: Self::SENTENCES,
-            atoms: Self::ATOMS,
-            items: Self::ITEMS,
-        };
-        self.list.add(most, node, left, right)
+        self.list.add(Self::most(), node, left, right)
     }
 }

@@ -1,16 +1,16 @@
 -- What one more sentence makes of the parts.
 use mathlib.Core.Path.{_≡_, refl, sym, ap, subst, _∙_}
-use mathlib.Core.List.{List, [], _∷_, _++_, map}
+use mathlib.Core.List.{List, [], _∷_, _++_}
 use mathlib.Core.Logic.{⊎-elim}
-use Prim.Native.Nat.{ℕ, zero, suc, _+_, _<_, _≤_}
+use Prim.Native.Nat.{ℕ, suc, _+_, _<_, _≤_}
 use native.Mathlib.Omega.{arith}
-use lib.ListN.{length, getD, take, drop, length-drop, length-append}
+use lib.ListN.{length, take, drop, length-drop, length-append}
 use Rattle.std.proofs.shelf.Lists.{map-push, drop-append-le, take-append-le, drop-at, take-all, length-push, getD-push, getD-append-left}
 use Rattle.std.proofs.str.Laws.{order}
 use Rattle.terms.specs.declared.items.Node.{Node}
 use Rattle.terms.specs.declared.items.Atom.{Atom}
 use Rattle.terms.specs.declared.items.Item.{Item}
-use Rattle.stores.specs.Sentences.{Sentence, sentence}
+use Rattle.stores.specs.Sentences.{sentence}
 use Rattle.kept.specs.declared.Record.{Record}
 use Rattle.kept.specs.Parts.{sentence-of, sentences, blank, Inside}
 

@@ -1,8 +1,8 @@
 -- The first sentence of a pair, by its number.
-use mathlib.Core.Path.{_≡_, refl, sym, ap, subst, _∙_}
+use mathlib.Core.Path.{_≡_, refl, sym, ap, _∙_}
 use mathlib.Core.Bool.{Bool, true, false, cond}
 use mathlib.Core.List.{List, [], _∷_, _++_}
-use Prim.Native.Nat.{ℕ, zero, suc, _+_, _<_, _≤_}
+use Prim.Native.Nat.{ℕ, _+_}
 use native.Mathlib.Omega.{arith}
 use lib.ListN.{length}
 use Rattle.std.specs.Options.{isSome}
@@ -13,7 +13,7 @@ use Rattle.std.proofs.shelf.Tests.{and-parts}
 use Rattle.terms.specs.declared.items.Node.{Node}
 use Rattle.terms.specs.declared.items.Atom.{Atom}
 use Rattle.terms.specs.declared.items.Item.{Item}
-use Rattle.terms.specs.Terms.{Terms, flat, terms-of}
+use Rattle.terms.specs.Terms.{Terms, terms-of}
 use Rattle.terms.specs.Maps.{every}
 use Rattle.stores.specs.Items.{item-at, items-of}
 use Rattle.stores.specs.Sentences.{Sentence, map-of, is-pair}

@@ -1,24 +1,18 @@
 -- Reading by the number of a sentence.
-use mathlib.Core.Path.{_≡_, refl, sym, ap, subst, _∙_}
-use mathlib.Core.Bool.{Bool, true, false, cond, _&&_}
-use mathlib.Core.List.{List, [], _∷_, _++_, map}
-use Prim.Native.Nat.{ℕ, zero, suc, _+_, _-_, _<_, _≤_, min}
+use mathlib.Core.Path.{_≡_, refl, sym, ap, _∙_}
+use mathlib.Core.List.{List, [], _∷_}
+use Prim.Native.Nat.{ℕ, zero, suc, _+_, _-_, _<_, _≤_}
 use native.Mathlib.Omega.{arith}
-use lib.Dec.{eqb}
 use lib.ListN.{length, getD, take, drop, length-drop}
 use Rattle.std.specs.shelf.Maps.{nth}
-use Rattle.std.specs.Orderings.{Decides}
-use Rattle.std.proofs.shelf.Lists.{getD-take, getD-drop, length-take, at-drop-more, at-drop-all, length-map, getD-map, getD-read}
+use Rattle.std.proofs.shelf.Lists.{getD-take, getD-drop, length-take, length-map, getD-map}
 use Rattle.std.proofs.shelf.Maps.{nth-getD, nth-past}
-use Rattle.std.proofs.shelf.Ways.{same-from-decides}
-use Rattle.std.specs.declared.option.Option.{Option}
 use Rattle.std.specs.declared.option.Option.the-variants.{Some, None}
-use Rattle.terms.specs.declared.items.Node.{Node}
 use Rattle.terms.specs.declared.items.Atom.{Atom}
 use Rattle.terms.specs.declared.items.Item.{Item}
 use Rattle.stores.specs.Items.{item-at}
 use Rattle.kept.specs.declared.Record.{Record}
-use Rattle.kept.specs.Parts.{sentence-of, sentences, blank}
+use Rattle.kept.specs.Parts.{sentence-of, sentences}
 
 pub item-nth : (is : List Item) (k : ℕ) → item-at is k ≡ nth is k
 item-nth [] k = refl

@@ -1,12 +1,12 @@
 -- What a limit that is not passed says.
-use mathlib.Core.Path.{_≡_, refl, sym, ap, _∙_}
+use mathlib.Core.Path.{_≡_, sym, ap, _∙_}
 use mathlib.Core.Bool.{Bool, true, false, _||_}
 use mathlib.Core.List.{List}
 use Prim.Native.Nat.{ℕ, _+_, _-_, _<_, _≤_, min}
 use native.Mathlib.Omega.{arith}
 use lib.Dec.{ltb}
 use lib.ListN.{length}
-use Rattle.std.proofs.shelf.Tests.{or-parts, or-from, or-left, or-right, ltb-false, le-ltb, lt-ltb}
+use Rattle.std.proofs.shelf.Tests.{or-parts, or-left, or-right, ltb-false, le-ltb, lt-ltb}
 use Rattle.std.proofs.shelf.Ways.{tells}
 use Rattle.stores.specs.Sentences.{Sentence, atoms-in, items-in}
 use Rattle.kept.specs.declared.Room.{Room}
@@ -26,11 +26,6 @@ within k ss a i h =
       atoms = ltb-false (k .atoms) (atoms-in ss + a) (q .0);
       items = ltb-false (k .items) (items-in ss + i) (q .1);
     }
-
-pub not-passed : (k : Room) (ss : List Sentence) (a i : ℕ) → Within k ss a i → passes k ss a i ≡ false
-not-passed k ss a i w =
-    or-from (ltb (k .sentences) (length ss + 1)) (ltb (k .atoms) (atoms-in ss + a) || ltb (k .items) (items-in ss + i)) (le-ltb (k .sentences) (length ss + 1) (w .sentences))
-    (or-from (ltb (k .atoms) (atoms-in ss + a)) (ltb (k .items) (items-in ss + i)) (le-ltb (k .atoms) (atoms-in ss + a) (w .atoms)) (le-ltb (k .items) (items-in ss + i) (w .items)))
 
 -- what the smaller of two does not pass, neither does
 pub within-smaller : (j k : Room) (ss : List Sentence) (a i : ℕ) → Within (smaller j k) ss a i → Within k ss a i
@@ -61,9 +56,10 @@ same-test m i n t l e = grind (arith, tells)
 min-same : (a b : ℕ) → b ≡ a → min a b ≡ a
 min-same a b e = omega arith
 
-pub smaller-limits : (s a i : ℕ) (r : Room) → r .sentences ≡ s → r .atoms ≡ a → r .items ≡ i → limits-of (smaller (record { sentences = s; atoms = a; items = i }) r) ≡ record { sentences = s; atoms = a; items = i }
-smaller-limits s a i r x y z =
+pub smaller-limits : (s a i : ℕ) (m r : Room) → m ≡ record { sentences = s; atoms = a; items = i } → r .sentences ≡ s → r .atoms ≡ a → r .items ≡ i
+    → limits-of (smaller m r) ≡ record { sentences = s; atoms = a; items = i }
+smaller-limits s a i m r e x y z =
     let p = min-same s (r .sentences) x in
     let q = min-same a (r .atoms) y in
     let t = min-same i (r .items) z in
-    λ j. record { sentences = p j; atoms = q j; items = t j }
+    ap (λ (k : Room). limits-of (smaller k r)) e ∙ (λ j. record { sentences = p j; atoms = q j; items = t j })

@@ -1,7 +1,7 @@
 // What every keeper keeps: sentence records, and the atoms and items of which each record tells its part.
 ghost use mathlib.Core.Path.{_≡_};
-ghost use Prim.Native.Nat.{ℕ, _+_, _<_, _≤_};
-ghost use lib.ListN.{length, getD};
+ghost use Prim.Native.Nat.{_<_, _≤_};
+ghost use lib.ListN.{length};
 ghost use Rattle.std.specs.Of.Vec.{vec-items, vec-cap};
 ghost use Rattle.stores.specs.Sentences.{atoms-in, items-in};
 ghost use Rattle.kept.specs.Parts.{sentences, Inside};

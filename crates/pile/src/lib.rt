@@ -1,11 +1,10 @@
 // A pile: an addendum over any store. It is a store again, so that piles can be piled.
 ghost use mathlib.Core.Path.{_≡_};
-ghost use Rattle.stores.specs.Piles.{pile-meaning};
+ghost use Rattle.stores.specs.Piles.{pile-meaning, larger};
 ghost use Rattle.addendum.specs.Held.{meaning-in};
 use addendum::Addendum;
 use addendum::keep::AddendumStore;
 use stores::Store;
-use stores::longer;
 use terms::Atom;
 use terms::Item;
 use terms::Node;
@@ -15,6 +14,17 @@ use terms::Node;
 pub struct Pile<S> {
     pub addendum: Addendum,
     pub below: S,
+}
+
+// The longer of two lengths that may not be there.
+fn longer(a: Option<usize>, b: Option<usize>) -> Option<usize>
+    ensures { λ r. ⌜ r ≡ larger a b ⌝ }
+{
+    match (a, b) {
+        (None, b) => b,
+        (Some(x), None) => Some(x),
+        (Some(x), Some(y)) => Some(x.max(y)),
+    }
 }
 
 pub impl<S: Store> Store for Pile<S> as PileStore {

@@ -2,10 +2,9 @@
 use mathlib.Core.Path.{_≡_, refl, sym, ap, subst, _∙_}
 use mathlib.Core.Bool.{Bool, true, false, cond, _&&_}
 use mathlib.Core.List.{List, [], _∷_, _++_, append-assoc}
-use mathlib.Core.Logic.{_↔_}
-use Prim.Native.Nat.{ℕ, zero, suc, _+_, _-_, _≤_, _<_, max}
+use Prim.Native.Nat.{ℕ, zero, suc, _+_, _-_, _≤_}
 use native.Mathlib.Omega.{arith}
-use lib.Dec.{eqb, ltb}
+use lib.Dec.{ltb}
 use lib.ListN.{length, length-append}
 use Rattle.std.specs.declared.option.Option.{Option}
 use Rattle.std.specs.declared.option.Option.the-variants.{Some, None}
@@ -17,7 +16,7 @@ use Rattle.terms.specs.declared.items.Item.{Item}
 use Rattle.terms.specs.declared.items.Item.the-variants as item
 use Rattle.terms.specs.Terms.{Terms, flat, nesting, balanced, Reading, in-path, read, terms-of}
 use Rattle.terms.proofs.Balance.{balanced-items-are-term-lists, items-read-back}
-use Rattle.stores.specs.Refusals.{open-after, closes, paired, shallow, Paired-items-are-term-lists, Shallow-items-nest-four-deep}
+use Rattle.stores.specs.Refusals.{open-after, closes, shallow, Paired-items-are-term-lists, Shallow-items-nest-four-deep}
 
 never : {P : Type 0} → true ≡ false → P
 never e = absurd (let z : _≡_ {A = ℕ} 0 1 = cc in omega arith)

@@ -11,16 +11,13 @@ use Rattle.std.specs.Options.{isSome}
 use Rattle.std.specs.declared.option.Option.{Option}
 use Rattle.std.specs.declared.option.Option.the-variants.{Some, None}
 use Rattle.std.proofs.shelf.Tests.{and-parts, ltb-false, cases-bool}
-use Rattle.terms.specs.declared.items.Node.{Node}
-use Rattle.terms.specs.declared.items.Atom.{Atom}
 use Rattle.terms.specs.declared.items.Item.{Item}
-use Rattle.terms.specs.Terms.{Terms, flat, nesting, terms-of}
+use Rattle.terms.specs.Terms.{flat, nesting, terms-of}
 use Rattle.terms.specs.Maps.{Fitting, Lawful, every, node-in-range, atom-in-range, item-in-range}
 use Rattle.terms.proofs.Balance.{balanced-items-are-term-lists, items-read-back}
-use Rattle.stores.specs.declared.refusals.Refusal.{Refusal}
 use Rattle.stores.specs.declared.refusals.Refusal.the-variants as refused
 use Rattle.stores.specs.Sentences.{Sentence, is-pair, map-of}
-use Rattle.stores.specs.Refusals.{well-formed, shallow, paired, unfit, fits}
+use Rattle.stores.specs.Refusals.{well-formed, shallow, paired, fits}
 use Rattle.stores.proofs.Closes.{closes-balanced}
 use Rattle.stores.proofs.Pairs.{never, pair-is}
 

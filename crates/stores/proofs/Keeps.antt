@@ -2,21 +2,18 @@
 use mathlib.Core.Path.{_≡_, refl, sym, ap, _∙_}
 use mathlib.Core.Bool.{Bool, true, false, cond, not, _&&_}
 use mathlib.Core.List.{List, [], _∷_, _++_}
-use Prim.Native.Nat.{ℕ, _+_}
+use Prim.Native.Nat.{_+_}
 use native.Mathlib.Omega.{arith}
 use native.Mathlib.Nat.{add-assoc}
 use lib.ListN.{length}
 use Rattle.std.specs.Options.{isSome}
-use Rattle.std.specs.declared.option.Option.{Option}
 use Rattle.std.specs.declared.option.Option.the-variants.{Some, None}
-use Rattle.std.specs.declared.result.Result.{Result}
 use Rattle.std.specs.declared.result.Result.the-variants.{Ok, Err}
 use Rattle.std.proofs.shelf.Tests.{and-parts}
 use Rattle.terms.specs.Maps.{every}
-use Rattle.stores.specs.declared.refusals.Refusal.{Refusal}
 use Rattle.stores.specs.declared.refusals.Refusal.the-variants as refused
 use Rattle.stores.specs.Sentences.{Sentence, map-of, atoms-in, items-in}
-use Rattle.stores.specs.Refusals.{unfit, fits, Limits, over, or-else, refusal, answer, kept-after}
+use Rattle.stores.specs.Refusals.{unfit, Limits, over, or-else, refusal, answer, kept-after}
 
 pub every-push : {X : Type 0} (f : X → Bool) (xs : List X) (x : X) → every f xs ≡ true → f x ≡ true → every f (xs ++ x ∷ []) ≡ true
 every-push f [] x h e = ap (λ b. b && true) e
@@ -32,16 +29,10 @@ pub items-push : (ss : List Sentence) (s : Sentence) → items-in (ss ++ s ∷ [
 items-push [] s = omega arith
 items-push (x ∷ ss) s = ap (λ k. length (x .right) + k) (items-push ss s) ∙ sym (add-assoc (length (x .right)) (items-in ss) (length (s .right)))
 
-pub unfit-fits : (s : Sentence) → unfit s ≡ None → fits s ≡ true
-unfit-fits s u = ap (λ (o : Option Refusal). not (isSome o)) u
-
 module _ (k : Limits) (ss : List Sentence) (s : Sentence) (u : unfit s ≡ None) where
   behind : or-else (unfit s) (cond (isSome (map-of ss (s .node) (s .left))) (Some refused.AlreadyKept) (cond (over k ss s) (Some refused.Full) None))
       ≡ cond (isSome (map-of ss (s .node) (s .left))) (Some refused.AlreadyKept) (cond (over k ss s) (Some refused.Full) None)
   behind = ap (λ x. or-else x (cond (isSome (map-of ss (s .node) (s .left))) (Some refused.AlreadyKept) (cond (over k ss s) (Some refused.Full) None))) u
-
-  pub refusal-kept : isSome (map-of ss (s .node) (s .left)) ≡ true → refusal k ss s ≡ Some refused.AlreadyKept
-  refusal-kept h = behind ∙ ap (λ b. cond b (Some refused.AlreadyKept) (cond (over k ss s) (Some refused.Full) None)) h
 
   refusal-by-room : (b : Bool) → isSome (map-of ss (s .node) (s .left)) ≡ false → over k ss s ≡ b → refusal k ss s ≡ cond b (Some refused.Full) None
   refusal-by-room b h o = behind ∙ ap (λ v. cond v (Some refused.AlreadyKept) (cond (over k ss s) (Some refused.Full) None)) h ∙ ap (λ v. cond v (Some refused.Full) None) o

@@ -1,6 +1,5 @@
 // Refusals 4 to 7, which a sentence alone decides.
 ghost use mathlib.Core.Path.{_≡_};
-ghost use lib.ListN.{length};
 ghost use Rattle.std.specs.declared.option.Option.the-variants.{Some};
 ghost use Rattle.terms.specs.Maps.{every, node-in-range, atom-in-range, item-in-range};
 ghost use Rattle.stores.specs.Sentences.{sentence};

@@ -8,7 +8,6 @@ ghost use Rattle.stores.specs.Items.{item-at, items-of};
 ghost use Rattle.stores.specs.Sentences.{Sentence, sentence, map-of};
 ghost use Rattle.stores.specs.Refusals.{Limits, refusal, answer, kept-after};
 ghost use Rattle.stores.specs.Refusals.{Paired-items-are-term-lists, Shallow-items-nest-four-deep};
-ghost use Rattle.stores.specs.Piles.{larger};
 use terms::Atom;
 use terms::Item;
 use terms::Node;
@@ -72,17 +71,6 @@ pub trait Keeper: Store {
     fn add(&mut self, node: Node, left: &[Atom], right: &[Item]) -> Result<(), Refusal>
         ensures gives { λ r. ⌜ r ≡ answer (refusal limits (kept (now (self .entry))) (sentence node (now (left .entry)) (now (right .entry)))) ⌝ }
         ensures keeps { λ r. ⌜ kept (now (self .exit)) ≡ kept-after (refusal limits (kept (now (self .entry))) (sentence node (now (left .entry)) (now (right .entry)))) (kept (now (self .entry))) (sentence node (now (left .entry)) (now (right .entry))) ⌝ };
-}
-
-/// The longer of two lengths that may not be there.
-pub fn longer(a: Option<usize>, b: Option<usize>) -> Option<usize>
-    ensures { λ r. ⌜ r ≡ larger a b ⌝ }
-{
-    match (a, b) {
-        (None, b) => b,
-        (Some(x), None) => Some(x),
-        (Some(x), Some(y)) => Some(x.max(y)),
-    }
 }
 
 /// The items that are not refused as unbalanced are those of a list of terms, and of these the ones that are not refused as

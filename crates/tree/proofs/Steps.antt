@@ -1,8 +1,8 @@
 -- The steps of the walk down the tree.
-use mathlib.Core.Path.{_≡_, refl, sym, ap, subst, _∙_}
-use mathlib.Core.Bool.{Bool, true, false, cond}
+use mathlib.Core.Path.{_≡_, refl, sym, ap, _∙_}
+use mathlib.Core.Bool.{cond}
 use mathlib.Core.List.{List, [], _∷_, _++_, map}
-use Prim.Native.Nat.{ℕ, zero, suc, _+_, _-_, _<_, _≤_}
+use Prim.Native.Nat.{ℕ, zero, suc, _+_, _-_, _<_}
 use native.Mathlib.Omega.{arith}
 use lib.ListN.{length, take, drop}
 use Rattle.std.specs.Options.{isSome}
@@ -15,7 +15,7 @@ use Rattle.terms.specs.LookUp.{look-up, length-found}
 use Rattle.stores.specs.Sentences.{Sentence, map-of}
 use Rattle.stores.proofs.Longest.{upto, found-upto}
 use Rattle.trie.specs.declared.Edge.{Edge}
-use Rattle.trie.specs.Ways.{walk, go, mark-at, lookup, num, word-of}
+use Rattle.trie.specs.Ways.{walk, go, mark-at, lookup, num}
 use Rattle.trie.proofs.Grows.{walk-none}
 use Rattle.tree.proofs.Ties.{Tied, some-marked}
 

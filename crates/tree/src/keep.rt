@@ -1,7 +1,7 @@
 // The calls.
 ghost use mathlib.Core.Path.{_≡_};
 ghost use mathlib.Core.Bool.{true, false, cond, not};
-ghost use mathlib.Core.List.{List, _∷_, [], _++_};
+ghost use mathlib.Core.List.{_∷_, [], _++_};
 ghost use lib.ListN.{length};
 ghost use Rattle.std.specs.Vec.{made};
 ghost use Rattle.std.specs.Options.{isSome};
@@ -27,16 +27,22 @@ use terms::Node;
 use trie::Trie;
 
 impl PrefixTree {
+    // What it keeps at most.
+    fn most() -> Room
+        ensures { λ r. ⌜ r ≡ record { sentences = 2048; atoms = 8192; items = 32768 } ⌝ }
+    {
+        Room {
+            sentences: Self::SENTENCES,
+            atoms: Self::ATOMS,
+            items: Self::ITEMS,
+        }
+    }
+
     /// Nothing kept, with all the memory that it will ever take: an edge for each sentence's node and each atom.
     pub fn new(heap: Global) -> Result<PrefixTree, AllocError>
         ensures { λ r. ⌜ made r (λ s. kept-in s ≡ []) ⌝ }
     {
-        let room = Room {
-            sentences: 2048,
-            atoms: 8192,
-            items: 32768,
-        };
-        let kept = Kept::new(heap, room)?;
+        let kept = Kept::new(heap, Self::most())?;
         let trie = Trie::new(heap, 10240)?;
         Ok(PrefixTree { kept, trie })
     }
@@ -120,12 +126,7 @@ pub impl Keeper for PrefixTree as PrefixTreeKeeper {
         if self.has(node, left) {
             return Err(Refusal::AlreadyKept);
         }
-        let most = Room {
-            sentences: Self::SENTENCES,
-            atoms: Self::ATOMS,
-            items: Self::ITEMS,
-        };
-        if self.put(most, node, left, right) {
+        if self.put(Self::most(), node, left, right) {
             Ok(())
         } else {
             Err(Refusal::Full)

@@ -1,11 +1,11 @@
 -- The search for a child along the chain of its bucket.
-use mathlib.Core.Path.{_≡_, refl, sym, ap, subst, _∙_}
-use mathlib.Core.Bool.{Bool, true, false, cond, _&&_}
-use mathlib.Core.List.{List, [], _∷_, _++_, map}
-use Prim.Native.Nat.{ℕ, zero, suc, _+_, _-_, _<_, _≤_}
+use mathlib.Core.Path.{_≡_, sym, ap, subst, _∙_}
+use mathlib.Core.Bool.{true, false}
+use mathlib.Core.List.{List, map}
+use Prim.Native.Nat.{ℕ, suc, _+_, _-_, _<_}
 use native.Mathlib.Omega.{arith}
 use lib.Dec.{eqb}
-use lib.ListN.{length, take, getD, length-map}
+use lib.ListN.{length, getD, length-map}
 use Rattle.std.proofs.shelf.Lists.{getD-read}
 use Rattle.std.proofs.shelf.Tests.{eq-eqb}
 use Rattle.std.specs.declared.option.Option.{Option}
@@ -13,7 +13,7 @@ use Rattle.std.specs.declared.option.Option.the-variants.{Some, None}
 use Rattle.chains.specs.Last.{last-by, earlier, up-to}
 use Rattle.chains.proofs.Walks.{Chain, chain-start, chain-hit, chain-next, chain-end}
 use Rattle.trie.specs.declared.Edge.{Edge}
-use Rattle.trie.specs.Ways.{blank, edge, is-edge, end, child-of, bucket-of, bucket}
+use Rattle.trie.specs.Ways.{blank, is-edge, end, child-of, bucket-of, bucket}
 use Rattle.trie.proofs.Grows.{edge-is}
 
 edge-bucket : (p a : ℕ) (e : Edge) → is-edge p a e ≡ true → eqb (bucket p a) (bucket-of e) ≡ true

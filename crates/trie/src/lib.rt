@@ -1,9 +1,9 @@
 // A tree of edges with labels, and marks at its places. Place 0 is the top, and place i + 1 is where edge i leads.
 ghost use mathlib.Core.Path.{_≡_};
 ghost use mathlib.Core.List.{map};
-ghost use Prim.Native.Nat.{ℕ, _+_, _<_, _≤_};
-ghost use lib.ListN.{length, getD};
-ghost use Rattle.std.specs.Of.Vec.{vec-items, vec-len, vec-cap};
+ghost use Prim.Native.Nat.{_+_, _<_, _≤_};
+ghost use lib.ListN.{length};
+ghost use Rattle.std.specs.Of.Vec.{vec-items, vec-cap};
 ghost use Rattle.chains.specs.Held.{buckets-in, width-in, room-in as chains-room};
 ghost use Rattle.trie.specs.Ways.{bucket-of, Rising};
 use chains::Chains;

@@ -1,10 +1,9 @@
 use native.Mathlib.Omega.{arith}
 use lib.ListN.{length-map}
-use mathlib.Core.Path.{_≡_}
 use Rattle.std.specs.Of.Vec.{vec-items}
 use Rattle.kept.specs.Parts.{sentence-of}
 use Rattle.kept.specs.Held.{kept-in}
-use Rattle.kept.proofs.Rooms.{passes-sentences, passes-atoms, passes-items, same-test}
+use Rattle.kept.proofs.Rooms.{passes-sentences, passes-items, same-test}
 use Rattle.kept.proofs.Kept.is_passed.Needs as need
 
 pub returns-then-len-most : need.returns-then-len-most

@@ -1,6 +1,5 @@
 use mathlib.Core.Path.{_≡_, sym, ap, subst, _∙_}
-use mathlib.Core.Bool.{true, _&&_}
-use lib.Dec.{eqb}
+use mathlib.Core.Bool.{_&&_}
 use borrow.Author.Tests.{eq-eqb}
 use Rattle.std.specs.Of.Vec.{vec-items}
 use Rattle.std.specs.Orderings.{Decides}

@@ -1,8 +1,7 @@
 use borrow.Author.Needs.{needs}
 use native.Mathlib.Omega.{arith}
-use mathlib.Core.Path.{_≡_, refl, sym, ap, subst, _∙_}
-use mathlib.Core.Bool.{true}
-use mathlib.Core.List.{_++_, _∷_, []}
+use mathlib.Core.Path.{_≡_, refl, ap, _∙_}
+use mathlib.Core.List.{_++_}
 use lib.ListN.{length, length-append, length-map}
 use Rattle.std.specs.Of.Vec.{vec-items}
 use Rattle.stores.specs.Sentences.{atoms-in, items-in, sentence}

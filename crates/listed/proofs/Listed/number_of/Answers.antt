@@ -1,6 +1,6 @@
 use Rattle.chains.specs.Held.{buckets-in}
 use Rattle.listed.specs.Held.{held-in}
-use Rattle.listed.proofs.Numbers.{number-start, number-hit, number-next, number-end}
+use Rattle.listed.proofs.Numbers.{number-start, number-hit, number-next}
 use Rattle.listed.proofs.Listed.number_of.Needs as need
 
 pub loop-at-holds : need.loop-at-holds

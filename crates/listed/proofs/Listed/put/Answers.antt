@@ -1,16 +1,14 @@
-use borrow.Author.Needs.{needs}
 use native.Mathlib.Omega.{arith}
-use mathlib.Core.Path.{_≡_, refl, sym, ap, subst, _∙_}
+use mathlib.Core.Path.{_≡_, sym, ap, _∙_}
 use mathlib.Core.Bool.{true, cond}
 use mathlib.Core.List.{_++_, _∷_, []}
-use lib.ListN.{length}
 use Rattle.terms.specs.Maps.{every}
 use Rattle.stores.specs.Sentences.{sentence}
 use Rattle.stores.specs.Refusals.{fits}
 use Rattle.stores.proofs.Keeps.{every-push}
 use Rattle.kept.specs.declared.Room.{Room}
 use Rattle.kept.specs.Held.{kept-in}
-use Rattle.chains.specs.Held.{buckets-in, width-in, room-in}
+use Rattle.chains.specs.Held.{buckets-in}
 use Rattle.listed.specs.Held.{held-in}
 use Rattle.listed.proofs.Numbers.{still, takes, once-more, chained-more}
 use Rattle.listed.proofs.Listed.put.Needs as need

@@ -1,5 +1,4 @@
 use mathlib.Core.Path.{sym, ap, _∙_}
-use Rattle.terms.specs.Maps.{Map}
 use Rattle.terms.specs.LookUp.{look-up, length-found}
 use Rattle.stores.specs.Piles.{larger}
 use Rattle.stores.proofs.Longest.{found-either}

@@ -1,8 +1,8 @@
 use native.Mathlib.Omega.{arith}
-use mathlib.Core.Path.{_≡_, refl, sym, ap, subst, _∙_}
+use mathlib.Core.Path.{_≡_, sym, ap, subst, _∙_}
 use mathlib.Core.Bool.{true, cond}
 use mathlib.Core.List.{_++_, _∷_, []}
-use Prim.Native.Nat.{_≤_, _+_}
+use Prim.Native.Nat.{_+_}
 use lib.ListN.{length}
 use Rattle.std.proofs.shelf.Lists.{length-push}
 use Rattle.terms.specs.Maps.{every}
@@ -11,7 +11,7 @@ use Rattle.stores.specs.Refusals.{fits}
 use Rattle.stores.proofs.Keeps.{every-push, atoms-push}
 use Rattle.kept.specs.declared.Room.{Room}
 use Rattle.kept.specs.Held as kept
-use Rattle.trie.specs.Held.{edges-in, mark-in}
+use Rattle.trie.specs.Held.{mark-in}
 use Rattle.tree.specs.Held.{kept-in}
 use Rattle.tree.proofs.Ties.{Tied, tied-more, takes}
 use Rattle.tree.proofs.PrefixTree.put.Needs as need

@@ -1,17 +1,9 @@
-use borrow.Author.Needs.{needs}
 use native.Mathlib.Omega.{arith}
-use mathlib.Core.Path.{_≡_, refl, sym, ap, subst, _∙_}
-use mathlib.Core.Bool.{true, false}
-use mathlib.Core.List.{map}
-use Prim.Native.Nat.{_<_}
-use lib.ListN.{length, length-map}
+use mathlib.Core.Path.{sym, ap, _∙_}
 use Rattle.std.specs.Of.Vec.{vec-items}
-use Rattle.std.specs.declared.option.Option.the-variants.{Some, None}
 use Rattle.chains.specs.Held.{buckets-in}
-use Rattle.chains.specs.Last.{last-by, up-to}
-use Rattle.chains.proofs.Walks.{Chain}
-use Rattle.trie.specs.Ways.{is-edge, bucket, end}
-use Rattle.trie.proofs.Childs.{child-start, child-within, child-hit, child-next, child-end}
+use Rattle.chains.specs.Last.{last-by}
+use Rattle.trie.proofs.Childs.{child-start, child-within, child-hit, child-next}
 use Rattle.trie.proofs.Trie.child.Needs as need
 
 pub loop-at-holds : need.loop-at-holds

@@ -1,10 +1,8 @@
-use borrow.Author.Needs.{needs}
 use native.Mathlib.Omega.{arith}
-use mathlib.Core.Path.{_≡_, refl, sym, ap, subst, _∙_}
+use mathlib.Core.Path.{sym, ap, _∙_}
 use mathlib.Core.List.{_++_, map}
 use lib.ListN.{take}
-use Rattle.std.specs.declared.option.Option.the-variants.{Some}
-use Rattle.std.proofs.shelf.Lists.{append-nil, take-all}
+use Rattle.std.proofs.shelf.Lists.{take-all}
 use Rattle.trie.specs.Held.{place-in}
 use Rattle.trie.specs.Ways.{num}
 use Rattle.trie.proofs.Steps.{push-more}

@@ -7,7 +7,7 @@ use lib.ListN.{length}
 use Rattle.std.specs.declared.option.Option.the-variants.{Some}
 use Rattle.std.proofs.shelf.Tests.{lt-ltb, true≢false}
 use Rattle.trie.specs.Ways.{lookup, word-of}
-use Rattle.trie.specs.Held.{edges-in, marks-in, room-in, place-in, mark-in}
+use Rattle.trie.specs.Held.{edges-in, marks-in, room-in, place-in}
 use Rattle.trie.proofs.Grows.{mark-there, mark-elsewhere}
 use Rattle.trie.proofs.Trie.insert.Needs as need
 

@@ -1,9 +1,8 @@
 use borrow.Author.Needs.{needs}
 use native.Mathlib.Omega.{arith}
-use mathlib.Core.Path.{_≡_, refl, sym, ap, subst, _∙_}
+use mathlib.Core.Path.{_≡_, refl, sym, ap, _∙_}
 use mathlib.Core.Bool.{true, cond}
 use mathlib.Core.List.{_++_, _∷_, []}
-use Prim.Native.Nat.{_<_, _≤_}
 use lib.Dec.{ltb}
 use lib.ListN.{length, length-map}
 use Rattle.std.specs.Of.Vec.{vec-items}

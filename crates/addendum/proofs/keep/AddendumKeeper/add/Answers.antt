@@ -1,7 +1,6 @@
-use mathlib.Core.Path.{_≡_, ap, _∙_}
+use mathlib.Core.Path.{ap, _∙_}
 use Rattle.stores.specs.Sentences.{sentence}
 use Rattle.stores.specs.Refusals.{Limits, refusal, answer, kept-after}
-use Rattle.kept.specs.Held.{limits-of, smaller}
 use Rattle.listed.specs.Held.{held-in, room-in}
 use Rattle.kept.proofs.Rooms.{smaller-limits}
 use Rattle.addendum.specs.Held as own
@@ -12,5 +11,5 @@ returns c =
     let s = c .args .self .now in
     let ss = held-in (s .list) in
     let t = sentence (c .args .node) (c .args .left .now) (c .args .right .now) in
-    let e = smaller-limits 256 1024 2048 (room-in (s .list)) (s .«sentences_room») (s .«atoms_room») (s .«items_room») in
+    let e = smaller-limits 256 1024 2048 (c .most .result) (room-in (s .list)) (c .most .ensures) (s .«sentences_room») (s .«atoms_room») (s .«items_room») in
     record { gives = c .add .ensures .gives ∙ ap (λ (k : Limits). answer (refusal k ss t)) e; keeps = c .add .ensures .held ∙ ap (λ (k : Limits). kept-after (refusal k ss t) ss t) e }

@@ -1,5 +1,5 @@
 use native.Mathlib.Omega.{arith}
-use mathlib.Core.Path.{_≡_, refl, sym, ap, subst, _∙_}
+use mathlib.Core.Path.{refl, sym, _∙_}
 use Rattle.trie.specs.Held.{edges-in, marks-in}
 use Rattle.trie.proofs.Steps.{walk-more}
 use Rattle.tree.specs.Held.{kept-in}

@@ -1,0 +1,4 @@
+pub mod Fills
+pub mod Accepts
+pub mod Maps
+pub mod RightSides

@@ -15,36 +15,56 @@ use terms::Atom;
 use terms::Item;
 use terms::Node;
 
-fn length(found: Option<usize>) -> usize {
-    match found {
+// The length that is found, or 99.
+fn length<S: Store>(store: &S, node: u16, path: &[Atom]) -> usize {
+    match store.find(Node(node), path) {
         Some(n) => n,
         None => 99,
     }
 }
 
-fn atom(item: Option<Item>) -> u16 {
-    match item {
-        Some(Item::Atom(a)) => a.0,
-        Some(_) => 9998,
-        None => 9999,
+// The number of the atom that stands first in a right side of node 1, or 99.
+fn first<S: Store>(store: &S, left: &[Atom]) -> usize {
+    match store.item(Node(1), left, 0) {
+        Some(Item::Atom(a)) => a.0 as usize,
+        Some(_) => 98,
+        None => 99,
     }
 }
 
-fn found<S: Store>(rt: &LibcRuntime, name: &str, store: &S) -> Result<(), AnyError> {
+fn finds<S: Store>(store: &S) -> [usize; 4] {
     let path = [Atom(5), Atom(6), Atom(7)];
-    println!(
-        rt,
-        "{name}: finds {} {} {} {}, items {} {} {} {}",
-        length(store.find(Node(1), &path[0..0])),
-        length(store.find(Node(1), &path[0..2])),
-        length(store.find(Node(1), &path)),
-        length(store.find(Node(2), &path)),
-        atom(store.item(Node(1), &path[0..0], 0)),
-        atom(store.item(Node(1), &path[0..1], 0)),
-        atom(store.item(Node(1), &path[0..2], 0)),
-        atom(store.item(Node(1), &path, 0))
-    )?;
+    [
+        length(store, 1, &path[0..0]),
+        length(store, 1, &path[0..2]),
+        length(store, 1, &path),
+        length(store, 2, &path),
+    ]
+}
+
+fn items<S: Store>(store: &S) -> [usize; 4] {
+    let path = [Atom(5), Atom(6), Atom(7)];
+    [
+        first(store, &path[0..0]),
+        first(store, &path[0..1]),
+        first(store, &path[0..2]),
+        first(store, &path),
+    ]
+}
+
+fn line(rt: &LibcRuntime, name: &str, numbers: &[usize]) -> Result<(), AnyError> {
+    print!(rt, "{name}:")?;
+    for n in numbers {
+        print!(rt, " {n}")?;
+    }
+    println!(rt, "")?;
     Ok(())
+}
+
+fn found<S: Store>(rt: &LibcRuntime, name: &str, store: &S) -> Result<(), AnyError> {
+    line(rt, name, &[])?;
+    line(rt, "finds", &finds(store))?;
+    line(rt, "items", &items(store))
 }
 
 // The addendum has one of the theory's pairs, with an empty right side.

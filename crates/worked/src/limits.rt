@@ -7,7 +7,7 @@ use terms::Node;
 use terms::Quoting;
 
 /// 97 nodes, each inheriting from the next.
-pub fn add_chain<K: Keeper>(keeper: &mut K) -> Result<(), Refusal> {
+pub(crate) fn add_chain<K: Keeper>(keeper: &mut K) -> Result<(), Refusal> {
     for n in 0u16..96 {
         keeper.add(Node(n), &[], &[Item::Node(Quoting::Plain, Node(n + 1))])?;
     }
@@ -15,7 +15,7 @@ pub fn add_chain<K: Keeper>(keeper: &mut K) -> Result<(), Refusal> {
 }
 
 /// Node 200 has 256 atoms, by nine nodes of which each has the next twice. Node 199 has one atom more.
-pub fn add_doubles<K: Keeper>(keeper: &mut K) -> Result<(), Refusal> {
+pub(crate) fn add_doubles<K: Keeper>(keeper: &mut K) -> Result<(), Refusal> {
     for n in 200u16..208 {
         let next = Item::Node(Quoting::Plain, Node(n + 1));
         keeper.add(Node(n), &[], &[next, next])?;

@@ -27,7 +27,7 @@ fn atom_name(atom: Atom) -> &'static str {
     }
 }
 
-pub fn question(rt: &LibcRuntime, node: Node, path: &[Atom]) -> Result<(), AnyError> {
+pub(crate) fn question(rt: &LibcRuntime, node: Node, path: &[Atom]) -> Result<(), AnyError> {
     print!(rt, "{}:<", node_name(node))?;
     for (i, a) in path.iter().enumerate() {
         if i > 0 {
@@ -53,7 +53,10 @@ fn word(outcome: Outcome) -> &'static str {
 }
 
 /// The outcome, the atoms of a value, and the steps.
-pub fn outcome<S: Store>(rt: &LibcRuntime, evaluator: &Evaluator<S>) -> Result<(), AnyError> {
+pub(crate) fn outcome<S: Store>(
+    rt: &LibcRuntime,
+    evaluator: &Evaluator<S>,
+) -> Result<(), AnyError> {
     print!(rt, "{}", word(evaluator.outcome()))?;
     for place in 0..256 {
         let Some(a) = evaluator.atom(place) else {
@@ -66,7 +69,7 @@ pub fn outcome<S: Store>(rt: &LibcRuntime, evaluator: &Evaluator<S>) -> Result<(
 }
 
 /// The outcome, how many atoms a value has, and the steps.
-pub fn count<S: Store>(rt: &LibcRuntime, evaluator: &Evaluator<S>) -> Result<(), AnyError> {
+pub(crate) fn count<S: Store>(rt: &LibcRuntime, evaluator: &Evaluator<S>) -> Result<(), AnyError> {
     let mut atoms = 0;
     for place in 0..300 {
         if evaluator.atom(place).is_some() {
@@ -82,7 +85,11 @@ pub fn count<S: Store>(rt: &LibcRuntime, evaluator: &Evaluator<S>) -> Result<(),
     Ok(())
 }
 
-pub fn refusal(rt: &LibcRuntime, title: &str, result: Result<(), Refusal>) -> Result<(), AnyError> {
+pub(crate) fn refusal(
+    rt: &LibcRuntime,
+    title: &str,
+    result: Result<(), Refusal>,
+) -> Result<(), AnyError> {
     let number = match result {
         Ok(()) => 0,
         Err(refusal) => refusal.number(),
@@ -91,7 +98,7 @@ pub fn refusal(rt: &LibcRuntime, title: &str, result: Result<(), Refusal>) -> Re
     Ok(())
 }
 
-pub fn added(rt: &LibcRuntime, result: Result<(), stores::Refusal>) -> Result<(), AnyError> {
+pub(crate) fn added(rt: &LibcRuntime, result: Result<(), stores::Refusal>) -> Result<(), AnyError> {
     match result {
         Ok(()) => Ok(()),
         Err(refusal) => {

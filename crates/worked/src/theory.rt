@@ -240,7 +240,7 @@ pub const CHANGE: &[Sentence; 1] = &[Sentence {
     right: &[QUOTED_OPEN, Item::Atom(STEM), CLOSE, Item::Atom(ER)],
 }];
 
-pub fn add_all<K: Keeper>(keeper: &mut K, sentences: &[Sentence]) -> Result<(), Refusal> {
+pub(crate) fn add_all<K: Keeper>(keeper: &mut K, sentences: &[Sentence]) -> Result<(), Refusal> {
     for s in sentences {
         keeper.add(s.node, s.left, s.right)?;
     }

@@ -41,8 +41,8 @@ module _ (M : Map) where
         none = sym (ap (λ x. steps-taken M x p) (sym s) ∙ (i .1 ∙ omega (arith, taken-none M (n - k) (after M k p) e z)));
       }
 
-  at-asks : (m : Machine) → m .phase ≡ phase.Asks → step-of (state-in M m) ≡ 1
-  at-asks m e = ap (λ x. step-of (comes-to (meant M (parts x (m .asked) (vec-items (m .table)) (vec-items (m .insides)) (vec-items (m .value)))))) e
+  pub asks-one : (m : Machine) → m .phase ≡ phase.Asks → step-of (state-in M m) ≡ 1
+  asks-one m e = ap (λ x. step-of (comes-to (meant M (parts x (m .asked) (vec-items (m .table)) (vec-items (m .insides)) (vec-items (m .value)))))) e
 
   ended-by : (x : Phase) (m : Machine) → Rests x → (x ≡ phase.Asks → ⊥)
       → let p : State Open = comes-to (meant M (parts x (m .asked) (vec-items (m .table)) (vec-items (m .insides)) (vec-items (m .value)))) in (next M p ≡ p) × (step-of p ≡ 0)
@@ -54,6 +54,3 @@ module _ (M : Map) where
 
   pub ended : (m : Machine) → Rests (m .phase) → (m .phase ≡ phase.Asks → ⊥) → (next M (state-in M m) ≡ state-in M m) × (step-of (state-in M m) ≡ 0)
   ended m r f = ended-by (m .phase) m r f
-
-  pub asks-one : (m : Machine) → m .phase ≡ phase.Asks → step-of (state-in M m) ≡ 1
-  asks-one m e = at-asks m e

@@ -42,7 +42,7 @@ some-stacked : (os : List Open) (o : Position) (below : List Position) → Some-
 some-stacked [] o below = (o, below, refl)
 some-stacked (p ∷ os) o below = some-stacked os (position-of p) (o ∷ below)
 
-some-position : (os : List Open) → 0 < length os → Some-open (positions-of os)
+pub some-position : (os : List Open) → 0 < length os → Some-open (positions-of os)
 some-position [] h = absurd (omega arith)
 some-position (o ∷ os) h = some-stacked os (position-of o) []
 
@@ -116,9 +116,6 @@ took-node o os h c n r a = ap reached (posed-asks r (node-asks (site (o .at) (o 
 pub took-close : (o : Position) (os : List Position) (h : Built) (c n : _) (u : List Atom) (r : Option Kept) → Asks r (path-asks (site (o .at) (o .left)) c n u)
     → reached (posed r (onward o ∷ os) h) ≡ took (Some item.Close) (working (o ∷ os) (inside c n u h))
 took-close o os h c n u r a = ap reached (posed-asks r (path-asks (site (o .at) (o .left)) c n u) (onward o ∷ os) h a)
-
-pub some-positions : (xs : List Open) → 0 < length xs → Some-open (positions-of xs)
-some-positions xs h = some-position xs h
 
 pub closed-some : (os : List Position) (h : Built) → Some-open os → closed os h ≡ working os h
 closed-some os h s = ap (λ p. closed p h) (s .2) ∙ sym (ap (λ p. working p h) (s .2))

@@ -10,7 +10,7 @@ use Rattle.machine.specs.Items.{working, reached, closed, took}
 use Rattle.engine.specs.Phases.{least-open}
 use Rattle.engine.specs.States.{parts, positions-of, built-in}
 use Rattle.engine.proofs.Stacks.{below-last, built-so-far}
-use Rattle.engine.proofs.Working.{at-work, some-positions, closed-some}
+use Rattle.engine.proofs.Working.{at-work, some-position, closed-some}
 use Rattle.engine.proofs.machine.Machine.close_sentence.Needs as need
 
 pub returns-then-below-eq0 : need.returns-then-below-eq0
@@ -35,7 +35,7 @@ returns-else-below-eq0 c =
     let some : 0 < n = omega (arith, m .least) in
     let o = below-last xs n (m .table .ok .0) some in
     let i : vec-items k ≡ take (n - 1) xs = c .truncate .ensures .items ∙ ap (λ x. take (x - 1) xs) (c .len-below .ensures) in
-    let s = some-positions (vec-items k) (omega (arith, k .ok .0, c .truncate .ensures .len, c .len-below .ensures, c .if-below-eq0 .left)) in
+    let s = some-position (vec-items k) (omega (arith, k .ok .0, c .truncate .ensures .len, c .len-below .ensures, c .if-below-eq0 .left)) in
     ap (λ p. parts p (m .asked) (vec-items k) (vec-items (m .insides)) (vec-items (m .value))) (c .pre .works)
     ∙ (sym (closed-some (positions-of (vec-items k)) (built-in m) s)
     ∙ (ap (λ l. closed (positions-of l) (built-in m)) i

@@ -1,4 +1,5 @@
 pub mod Numbering
+pub mod Growth
 pub mod Runs
 pub mod Turns
 pub mod Sides

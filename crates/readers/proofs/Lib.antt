@@ -3,3 +3,4 @@ pub mod Growth
 pub mod Runs
 pub mod Turns
 pub mod Sides
+pub mod Lefts

@@ -54,7 +54,7 @@ fn is_quote(word: Word) -> bool
     }
 }
 
-fn is_greater(word: Word) -> bool
+pub(crate) fn is_greater(word: Word) -> bool
     ensures { λ r. ⌜ r ≡ is-greater word ⌝ }
 {
     match word {
@@ -72,7 +72,7 @@ fn starts_term(word: Word) -> bool
     }
 }
 
-fn no_number(place: usize) -> GrammarFault
+pub(crate) fn no_number(place: usize) -> GrammarFault
     ensures { λ r. ⌜ r ≡ fault.Name (record { place = place }) ⌝ }
 {
     GrammarFault::from(NameFault { place })

@@ -1,0 +1,28 @@
+-- What the readers of equations come to.
+use mathlib.Core.Path.{_≡_}
+use mathlib.Core.Bool.{true}
+use mathlib.Core.List.{List}
+use Prim.Native.Nat.{ℕ}
+use Rattle.std.specs.declared.result.Result.{Result}
+use Rattle.std.specs.declared.result.Result.the-variants.{Ok, Err}
+use Rattle.terms.specs.declared.items.Atom.{Atom}
+use Rattle.terms.specs.Maps.{every, atom-in-range}
+use Rattle.stores.specs.Refusals.{Limits}
+use Rattle.names.specs.declared.tables.Names.{Names as NameTables}
+use Rattle.grammar.specs.Parsing.{Stream, body, begun, Front}
+use Rattle.grammar.specs.Texts.{Names, rejected}
+use Rattle.readers.specs.declared.faults.GrammarFault.{GrammarFault}
+use Rattle.readers.specs.declared.parser.Parser.{Parser}
+use Rattle.readers.specs.Rest.{names-of, rest, final, gives, number, place}
+
+-- A left path with its < at s, and ==, are read.
+pub record Through-left (s : ℕ) (S : Stream) (F : Names) (S′ : Stream) (F′ : Names) (left : List Atom) : Type 0 where
+  pub in-range : every atom-in-range left ≡ true
+  pub comes : (l : Limits) (f : Front) → gives l S F (body f) ≡ gives l S′ F′ (begun (record { front = f; place = s; left = left }))
+
+abbrev pub Goes-left : ℕ → Stream → Names → Result (Unit {0}) GrammarFault → Stream → Names → List Atom → Type 0
+Goes-left s S F (Ok u) S′ F′ left = Through-left s S F S′ F′ left
+Goes-left s S F (Err e) S′ F′ left = (l : Limits) (f : Front) → gives l S F (body f) ≡ rejected (number e) (place e)
+
+abbrev pub Reads-left : NameTables → Parser → Result (Unit {0}) GrammarFault → NameTables → Parser → List Atom → Type 0
+Reads-left n p r n′ p′ left = Goes-left (p .place) (rest (names-of n) p) (final (names-of n) p) r (rest (names-of n′) p′) (final (names-of n′) p′) left

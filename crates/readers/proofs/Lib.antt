@@ -4,3 +4,4 @@ pub mod Runs
 pub mod Turns
 pub mod Sides
 pub mod Lefts
+pub mod LateRefusals

@@ -1,6 +1,7 @@
 // Readers of terms: a text's words, one ahead, into items.
 pub mod ahead;
 pub mod faults;
+mod keeping;
 mod left;
 pub mod parser;
 pub mod reading;

@@ -95,6 +95,7 @@ fn path(
     ensures grows { λ _. ⌜ Grown (names-of (now (names .entry))) (names-of (now (names .exit))) ⌝ }
     ensures less { λ r. ⌜ (isOk r ≡ true → words-left (now (names .exit)) (now (p .exit)) < words-left (now (names .entry)) (now (p .entry))) ⌝ }
     ensures room { λ r. ⌜ (isOk r ≡ true → vec-len (now (items .exit)) + words-left (now (names .exit)) (now (p .exit)) ≤ vec-cap (now (items .exit))) ⌝ }
+    ensures each { λ r. ⌜ (isOk r ≡ true → vec-len (now (items .exit)) + words-left (now (names .exit)) (now (p .exit)) ≤ vec-len (now (items .entry)) + words-left (now (names .entry)) (now (p .entry))) ⌝ }
 {
     if left == 0 {
         return Err(GrammarFault::Own(GrammarRefusal::TooDeep, p.place));
@@ -138,6 +139,7 @@ fn terms(
     ensures stops { λ r. ⌜ (isOk r ≡ true → starts (now (p .exit) .word) ≡ false) ⌝ }
     ensures less { λ r. ⌜ (isOk r ≡ true → words-left (now (names .exit)) (now (p .exit)) ≤ words-left (now (names .entry)) (now (p .entry))) ⌝ }
     ensures room { λ r. ⌜ (isOk r ≡ true → vec-len (now (items .exit)) + words-left (now (names .exit)) (now (p .exit)) ≤ vec-cap (now (items .exit))) ⌝ }
+    ensures each { λ r. ⌜ (isOk r ≡ true → vec-len (now (items .exit)) + words-left (now (names .exit)) (now (p .exit)) ≤ vec-len (now (items .entry)) + words-left (now (names .entry)) (now (p .entry))) ⌝ }
 {
     while starts_term(p.word) {
         term(p, names, items, left)?;
@@ -158,6 +160,7 @@ fn term(
     ensures grows { λ _. ⌜ Grown (names-of (now (names .entry))) (names-of (now (names .exit))) ⌝ }
     ensures less { λ r. ⌜ (isOk r ≡ true → words-left (now (names .exit)) (now (p .exit)) < words-left (now (names .entry)) (now (p .entry))) ⌝ }
     ensures room { λ r. ⌜ (isOk r ≡ true → vec-len (now (items .exit)) + words-left (now (names .exit)) (now (p .exit)) ≤ vec-cap (now (items .exit))) ⌝ }
+    ensures each { λ r. ⌜ (isOk r ≡ true → vec-len (now (items .exit)) + words-left (now (names .exit)) (now (p .exit)) ≤ vec-len (now (items .entry)) + words-left (now (names .entry)) (now (p .entry))) ⌝ }
 {
     if is_less(p.word) {
         path(p, names, items, left, Quoting::Plain, None)
@@ -181,6 +184,7 @@ fn unopened(
     ensures grows { λ _. ⌜ Grown (names-of (now (names .entry))) (names-of (now (names .exit))) ⌝ }
     ensures less { λ r. ⌜ (isOk r ≡ true → words-left (now (names .exit)) (now (p .exit)) < words-left (now (names .entry)) (now (p .entry))) ⌝ }
     ensures room { λ r. ⌜ (isOk r ≡ true → vec-len (now (items .exit)) + words-left (now (names .exit)) (now (p .exit)) ≤ vec-cap (now (items .exit))) ⌝ }
+    ensures each { λ r. ⌜ (isOk r ≡ true → vec-len (now (items .exit)) + words-left (now (names .exit)) (now (p .exit)) ≤ vec-len (now (items .entry)) + words-left (now (names .entry)) (now (p .entry))) ⌝ }
 {
     match p.word {
         Word::Atom(a) => {
@@ -219,6 +223,7 @@ fn after_node(
     ensures grows { λ _. ⌜ Grown (names-of (now (names .entry))) (names-of (now (names .exit))) ⌝ }
     ensures less { λ r. ⌜ (isOk r ≡ true → words-left (now (names .exit)) (now (p .exit)) ≤ words-left (now (names .entry)) (now (p .entry))) ⌝ }
     ensures room { λ r. ⌜ (isOk r ≡ true → vec-len (now (items .exit)) + words-left (now (names .exit)) (now (p .exit)) ≤ vec-cap (now (items .exit))) ⌝ }
+    ensures each { λ r. ⌜ (isOk r ≡ true → vec-len (now (items .exit)) + words-left (now (names .exit)) (now (p .exit)) ≤ 1 + vec-len (now (items .entry)) + words-left (now (names .entry)) (now (p .entry))) ⌝ }
 {
     if is_colon(p.word) {
         p.advance(names);
@@ -241,6 +246,7 @@ fn after_quote(
     ensures grows { λ _. ⌜ Grown (names-of (now (names .entry))) (names-of (now (names .exit))) ⌝ }
     ensures less { λ r. ⌜ (isOk r ≡ true → words-left (now (names .exit)) (now (p .exit)) ≤ words-left (now (names .entry)) (now (p .entry))) ⌝ }
     ensures room { λ r. ⌜ (isOk r ≡ true → vec-len (now (items .exit)) + words-left (now (names .exit)) (now (p .exit)) ≤ vec-cap (now (items .exit))) ⌝ }
+    ensures each { λ r. ⌜ (isOk r ≡ true → vec-len (now (items .exit)) + words-left (now (names .exit)) (now (p .exit)) ≤ vec-len (now (items .entry)) + words-left (now (names .entry)) (now (p .entry))) ⌝ }
 {
     match p.word {
         Word::Less => path(p, names, items, left, Quoting::Quoted, None),
@@ -269,6 +275,7 @@ fn after_quoted_node(
     ensures grows { λ _. ⌜ Grown (names-of (now (names .entry))) (names-of (now (names .exit))) ⌝ }
     ensures less { λ r. ⌜ (isOk r ≡ true → words-left (now (names .exit)) (now (p .exit)) ≤ words-left (now (names .entry)) (now (p .entry))) ⌝ }
     ensures room { λ r. ⌜ (isOk r ≡ true → vec-len (now (items .exit)) + words-left (now (names .exit)) (now (p .exit)) ≤ vec-cap (now (items .exit))) ⌝ }
+    ensures each { λ r. ⌜ (isOk r ≡ true → vec-len (now (items .exit)) + words-left (now (names .exit)) (now (p .exit)) ≤ vec-len (now (items .entry)) + words-left (now (names .entry)) (now (p .entry))) ⌝ }
 {
     if is_colon(p.word) {
         p.advance(names);
@@ -298,6 +305,7 @@ fn named_path(
     ensures grows { λ _. ⌜ Grown (names-of (now (names .entry))) (names-of (now (names .exit))) ⌝ }
     ensures less { λ r. ⌜ (isOk r ≡ true → words-left (now (names .exit)) (now (p .exit)) ≤ words-left (now (names .entry)) (now (p .entry))) ⌝ }
     ensures room { λ r. ⌜ (isOk r ≡ true → vec-len (now (items .exit)) + words-left (now (names .exit)) (now (p .exit)) ≤ vec-cap (now (items .exit))) ⌝ }
+    ensures each { λ r. ⌜ (isOk r ≡ true → vec-len (now (items .exit)) + words-left (now (names .exit)) (now (p .exit)) ≤ vec-len (now (items .entry)) + words-left (now (names .entry)) (now (p .entry))) ⌝ }
 {
     if !is_less(p.word) {
         return Err(p.misplaced());
@@ -330,6 +338,7 @@ pub(crate) fn right_side(
     ensures stops { λ r. ⌜ Stops round r (now (p .exit) .word) ⌝ }
     ensures less { λ r. ⌜ (isOk r ≡ true → words-left (now (names .exit)) (now (p .exit)) ≤ words-left (now (names .entry)) (now (p .entry))) ⌝ }
     ensures room { λ r. ⌜ (isOk r ≡ true → vec-len (now (items .exit)) + words-left (now (names .exit)) (now (p .exit)) ≤ vec-cap (now (items .exit))) ⌝ }
+    ensures each { λ r. ⌜ (isOk r ≡ true → vec-len (now (items .exit)) + words-left (now (names .exit)) (now (p .exit)) ≤ vec-len (now (items .entry)) + words-left (now (names .entry)) (now (p .entry))) ⌝ }
 {
     while starts_term(p.word) {
         if is_less(p.word) {

@@ -24,10 +24,11 @@ named-path-returns-then-not-is-less t c = record {
   grows = Growth.still _;
   less = λ e. absurd (grind arith);
   room = λ e. absurd (grind arith);
+  each = λ e. absurd (grind arith);
 }
 
 pub named-path-returns : need.named-path-returns
-named-path-returns t c = record { goes = Turns.path-term _ _ _ _ _ _ _ _ _ _ _ (c .path .ensures .goes); grows = c .path .ensures .grows; less = λ e. omega (arith, c .path .ensures .less e); room = c .path .ensures .room }
+named-path-returns t c = record { goes = Turns.path-term _ _ _ _ _ _ _ _ _ _ _ (c .path .ensures .goes); grows = c .path .ensures .grows; less = λ e. omega (arith, c .path .ensures .less e); room = c .path .ensures .room; each = λ e. omega (arith, c .path .ensures .each e) }
 
 pub after-node-named-path-requires : need.after-node-named-path-requires
 after-node-named-path-requires t c κs =
@@ -43,6 +44,7 @@ after-node-returns-then-is-colon t c =
       grows = Growth.on _ _ _ (c .advance .ensures .grows) (c .named-path .ensures .grows);
       less = λ e. omega (arith, c .named-path .ensures .less e);
       room = c .named-path .ensures .room;
+      each = λ e. omega (arith, c .named-path .ensures .each e);
     }
 
 pub after-node-returns-else-is-colon : need.after-node-returns-else-is-colon
@@ -51,6 +53,7 @@ after-node-returns-else-is-colon t c = record {
   grows = Growth.still _;
   less = λ e. omega arith;
   room = λ e. omega (arith, c .push-reserved .ensures .len, c .push-reserved .ensures .capacity);
+  each = λ e. omega (arith, c .push-reserved .ensures .len);
 }
 
 pub after-quote-returns-then-n-ge-NODES : need.after-quote-returns-then-n-ge-NODES
@@ -59,6 +62,7 @@ after-quote-returns-then-n-ge-NODES t c = record {
   grows = Growth.still _;
   less = λ e. absurd (grind arith);
   room = λ e. absurd (grind arith);
+  each = λ e. absurd (grind arith);
 }
 
 pub after-quote-after-quoted-node-requires : need.after-quote-after-quoted-node-requires
@@ -67,7 +71,7 @@ after-quote-after-quoted-node-requires t c κs =
     (search needs, (omega arith, (c .pre .depth, lt-ltb (c .in-Node .n .0) 1024 (omega arith))))
 
 pub after-quote-returns-in-Less : need.after-quote-returns-in-Less
-after-quote-returns-in-Less t c = record { goes = Turns.quoted-path-term _ _ _ _ _ _ _ _ _ (c .path .ensures .goes); grows = c .path .ensures .grows; less = λ e. omega (arith, c .path .ensures .less e); room = c .path .ensures .room }
+after-quote-returns-in-Less t c = record { goes = Turns.quoted-path-term _ _ _ _ _ _ _ _ _ (c .path .ensures .goes); grows = c .path .ensures .grows; less = λ e. omega (arith, c .path .ensures .less e); room = c .path .ensures .room; each = λ e. omega (arith, c .path .ensures .each e) }
 
 pub after-quote-returns-else-n-ge-NODES : need.after-quote-returns-else-n-ge-NODES
 after-quote-returns-else-n-ge-NODES t c =
@@ -78,6 +82,7 @@ after-quote-returns-else-n-ge-NODES t c =
       grows = Growth.on _ _ _ (c .advance .ensures .grows) (c .after-quoted-node .ensures .grows);
       less = λ e. omega (arith, c .after-quoted-node .ensures .less e);
       room = c .after-quoted-node .ensures .room;
+      each = λ e. omega (arith, c .after-quoted-node .ensures .each e);
     }
 
 pub after-quote-returns-in-rest : need.after-quote-returns-in-rest
@@ -86,6 +91,7 @@ after-quote-returns-in-rest t c = record {
   grows = Growth.still _;
   less = λ e. absurd (grind arith);
   room = λ e. absurd (grind arith);
+  each = λ e. absurd (grind arith);
 }
 
 pub after-quoted-node-named-path-requires : need.after-quoted-node-named-path-requires
@@ -102,6 +108,7 @@ after-quoted-node-returns-then-is-colon t c =
       grows = Growth.on _ _ _ (c .advance .ensures .grows) (c .named-path .ensures .grows);
       less = λ e. omega (arith, c .named-path .ensures .less e);
       room = c .named-path .ensures .room;
+      each = λ e. omega (arith, c .named-path .ensures .each e);
     }
 
 pub after-quoted-node-returns-then-not-is-quote : need.after-quoted-node-returns-then-not-is-quote
@@ -110,6 +117,7 @@ after-quoted-node-returns-then-not-is-quote t c = record {
   grows = Growth.still _;
   less = λ e. absurd (grind arith);
   room = λ e. absurd (grind arith);
+  each = λ e. absurd (grind arith);
 }
 
 pub after-quoted-node-returns : need.after-quoted-node-returns
@@ -121,6 +129,7 @@ after-quoted-node-returns t c =
       grows = c .advance-2 .ensures .grows;
       less = λ e. omega arith;
       room = λ e. omega (arith, c .push-reserved .ensures .len, c .push-reserved .ensures .capacity);
+      each = λ e. omega (arith, c .push-reserved .ensures .len);
     }
 
 pub path-returns-then-left-eq0 : need.path-returns-then-left-eq0
@@ -129,6 +138,7 @@ path-returns-then-left-eq0 t c = record {
   grows = Growth.still _;
   less = λ e. absurd (grind arith);
   room = λ e. absurd (grind arith);
+  each = λ e. absurd (grind arith);
 }
 
 pub path-push-reserved-requires : need.path-push-reserved-requires
@@ -147,6 +157,7 @@ path-returns-in-Break-terms t c =
       grows = Growth.on _ _ _ (c .advance .ensures .grows) (c .in-Break-terms .ensures tt .grows);
       less = rw (p .1) (λ q. absurd (grind arith));
       room = rw (p .1) (λ q. absurd (grind arith));
+      each = rw (p .1) (λ q. absurd (grind arith));
     }
 
 pub path-returns-then-not-is-greater : need.path-returns-then-not-is-greater
@@ -157,6 +168,7 @@ path-returns-then-not-is-greater t c =
       grows = Growth.on _ _ _ (c .advance .ensures .grows) (told .grows);
       less = λ e. absurd (grind arith);
       room = λ e. absurd (grind arith);
+      each = λ e. absurd (grind arith);
     }
 
 pub path-push-reserved-requires-2 : need.path-push-reserved-requires-2
@@ -173,6 +185,7 @@ path-returns-in-Plain t c =
       grows = Growth.on _ _ _ (Growth.on _ _ _ (c .advance .ensures .grows) (told .grows)) (c .advance-2 .ensures .grows);
       less = λ e. omega (arith, told .less refl);
       room = λ e. omega (arith, told .room refl, c .push-reserved-2 .ensures .len, c .push-reserved-2 .ensures .capacity);
+      each = λ e. omega (arith, told .each refl, c .push-reserved .ensures .len, c .push-reserved-2 .ensures .len);
     }
 
 pub path-returns-in-Quoted : need.path-returns-in-Quoted
@@ -186,18 +199,19 @@ path-returns-in-Quoted t c =
       grows = Growth.on _ _ _ (Growth.on _ _ _ (Growth.on _ _ _ (c .advance .ensures .grows) (told .grows)) (c .advance-2 .ensures .grows)) (c .end-quote .ensures .grows);
       less = λ e. omega (arith, told .less refl, c .end-quote .ensures .less e);
       room = λ e. omega (arith, told .room refl, c .end-quote .ensures .less e, c .push-reserved-2 .ensures .len, c .push-reserved-2 .ensures .capacity);
+      each = λ e. omega (arith, told .each refl, c .end-quote .ensures .less e, c .push-reserved .ensures .len, c .push-reserved-2 .ensures .len);
     }
 
 pub term-returns-then-is-less : need.term-returns-then-is-less
-term-returns-then-is-less t c = record { goes = Turns.plain-path-term _ _ _ _ _ _ _ _ _ (c .pre .inside) (c .path .ensures .goes); grows = c .path .ensures .grows; less = c .path .ensures .less; room = c .path .ensures .room }
+term-returns-then-is-less t c = record { goes = Turns.plain-path-term _ _ _ _ _ _ _ _ _ (c .pre .inside) (c .path .ensures .goes); grows = c .path .ensures .grows; less = c .path .ensures .less; room = c .path .ensures .room; each = λ e. omega (arith, c .path .ensures .each e) }
 
 pub terms-loop-p-holds : need.terms-loop-p-holds
-terms-loop-p-holds t c = (Turns.nothing _ _ _ _, Growth.still _, omega arith, c .pre .room)
+terms-loop-p-holds t c = (Turns.nothing _ _ _ _, Growth.still _, omega arith, c .pre .room, omega arith)
 
 pub terms-loop-p-again : need.terms-loop-p-again
 terms-loop-p-again t c =
     let told = c .in-Continue-term .ensures tt in
-    (Turns.and-more _ _ _ _ _ _ _ _ _ _ _ (c .loop-p .inv .0) (told .goes), Growth.on _ _ _ (c .loop-p .inv .1) (told .grows), omega (arith, told .less refl, c .loop-p .inv .2), told .room refl)
+    (Turns.and-more _ _ _ _ _ _ _ _ _ _ _ (c .loop-p .inv .0) (told .goes), Growth.on _ _ _ (c .loop-p .inv .1) (told .grows), omega (arith, told .less refl, c .loop-p .inv .2), told .room refl, omega (arith, told .each refl, c .loop-p .inv .4))
 
 pub terms-returns-in-Break-term : need.terms-returns-in-Break-term
 terms-returns-in-Break-term t c =
@@ -209,6 +223,7 @@ terms-returns-in-Break-term t c =
       stops = rw (p .1) (λ q. absurd (grind arith));
       less = rw (p .1) (λ q. absurd (grind arith));
       room = rw (p .1) (λ q. absurd (grind arith));
+      each = rw (p .1) (λ q. absurd (grind arith));
     }
 
 pub unopened-returns-then-a-ge-ATOMS : need.unopened-returns-then-a-ge-ATOMS
@@ -217,6 +232,7 @@ unopened-returns-then-a-ge-ATOMS t c = record {
   grows = Growth.still _;
   less = λ e. absurd (grind arith);
   room = λ e. absurd (grind arith);
+  each = λ e. absurd (grind arith);
 }
 
 pub unopened-push-reserved-requires : need.unopened-push-reserved-requires
@@ -230,6 +246,7 @@ unopened-returns-else-a-ge-ATOMS t c =
       grows = c .advance .ensures .grows;
       less = λ e. omega arith;
       room = λ e. omega (arith, c .push-reserved .ensures .len, c .push-reserved .ensures .capacity);
+      each = λ e. omega (arith, c .push-reserved .ensures .len);
     }
 
 pub unopened-returns-then-n-ge-NODES : need.unopened-returns-then-n-ge-NODES
@@ -238,6 +255,7 @@ unopened-returns-then-n-ge-NODES t c = record {
   grows = Growth.still _;
   less = λ e. absurd (grind arith);
   room = λ e. absurd (grind arith);
+  each = λ e. absurd (grind arith);
 }
 
 pub unopened-after-node-requires : need.unopened-after-node-requires
@@ -253,6 +271,7 @@ unopened-returns-else-n-ge-NODES t c =
       grows = Growth.on _ _ _ (c .advance-in-Node .ensures .grows) (c .after-node .ensures .grows);
       less = λ e. omega (arith, c .after-node .ensures .less e);
       room = c .after-node .ensures .room;
+      each = λ e. omega (arith, c .after-node .ensures .each e);
     }
 
 pub unopened-after-quote-requires : need.unopened-after-quote-requires
@@ -269,4 +288,5 @@ unopened-returns-in-rest t c =
       grows = Growth.on _ _ _ (c .advance-in-rest .ensures .grows) (c .after-quote .ensures .grows);
       less = λ e. omega (arith, c .after-quote .ensures .less e);
       room = c .after-quote .ensures .room;
+      each = λ e. omega (arith, c .after-quote .ensures .each e);
     }

@@ -34,6 +34,7 @@ Inv-terms-loop-p l =
     × Grown (names-of (l .entry .names)) (names-of (l .names))
     × (words-left (l .names) (l .p) ≤ words-left (l .entry .names) (l .entry .p))
     × (vec-len (l .items) + words-left (l .names) (l .p) ≤ vec-cap (l .items))
+    × (vec-len (l .items) + words-left (l .names) (l .p) ≤ vec-len (l .entry .items) + words-left (l .entry .names) (l .entry .p))
 
 abbrev pub μ-terms-loop-p : given.MeasureT-terms-loop-p
 μ-terms-loop-p l = words-left (l .names) (l .p)

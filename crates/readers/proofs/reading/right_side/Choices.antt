@@ -9,6 +9,7 @@ Inv-loop-items l =
     × Grown (names-of (l .entry .names)) (names-of (l .names))
     × (words-left (l .names) (l .p) ≤ words-left (l .entry .names) (l .entry .p))
     × (vec-len (l .items) + words-left (l .names) (l .p) ≤ vec-cap (l .items))
+    × (vec-len (l .items) + words-left (l .names) (l .p) ≤ vec-len (l .entry .items) + words-left (l .entry .names) (l .entry .p))
 
 abbrev pub μ-loop-items : given.MeasureT-loop-items
 μ-loop-items l = words-left (l .names) (l .p)

@@ -5,3 +5,4 @@ pub mod Turns
 pub mod Sides
 pub mod Lefts
 pub mod LateRefusals
+pub mod Atoms

@@ -1,12 +1,15 @@
 -- What the readers of equations come to.
 use mathlib.Core.Path.{_≡_}
-use mathlib.Core.Bool.{true}
+use mathlib.Core.Bool.{Bool, true, false}
 use mathlib.Core.List.{List, [], _∷_, _++_}
 use Prim.Native.Nat.{ℕ, _≤_}
+use Rattle.std.specs.declared.option.Option.{Option}
 use Rattle.std.specs.declared.option.Option.the-variants.{Some, None}
 use Rattle.std.specs.declared.result.Result.{Result}
 use Rattle.std.specs.declared.result.Result.the-variants.{Ok, Err}
 use Rattle.terms.specs.declared.items.Atom.{Atom}
+use Rattle.terms.specs.declared.items.Item.{Item}
+use Rattle.terms.specs.declared.items.Item.the-variants as item
 use Rattle.terms.specs.Limits.{nesting-limit}
 use Rattle.terms.specs.Terms.{Terms, flat, nesting}
 use Rattle.terms.specs.Maps.{every, node-in-range, atom-in-range, item-in-range}
@@ -15,7 +18,7 @@ use Rattle.stores.specs.Sentences.{Sentence}
 use Rattle.stores.specs.Refusals.{Limits}
 use Rattle.stores.specs.Refusals as stores
 use Rattle.names.specs.declared.tables.Names.{Names as NameTables}
-use Rattle.grammar.specs.Parsing.{Stream, body, begun, Front}
+use Rattle.grammar.specs.Parsing.{Stream, more-atoms, body, begun, Front}
 use Rattle.grammar.specs.Loading.{late-refusal}
 use Rattle.grammar.specs.Texts.{Names, rejected}
 use Rattle.readers.specs.declared.faults.GrammarFault.{GrammarFault}
@@ -47,3 +50,15 @@ pub record Spelt (x : Sentence) : Type 0 where
 abbrev pub Keeps : Limits → List Sentence → Sentence → ℕ → Result (Unit {0}) GrammarFault → List Sentence → Type 0
 Keeps l kept x p (Ok u) kept′ = Spelt x → (late-refusal l kept x ≡ None) × (kept′ ≡ kept ++ x ∷ [])
 Keeps l kept x p (Err e) kept′ = Spelt x → (f : Refusal) × ((late-refusal l kept x ≡ Some f) × ((number e ≡ stores.number f) × ((place e ≡ p) × (kept′ ≡ kept))))
+
+-- the atoms of items that are all atoms
+abbrev pub collected : List Item → Option (List Atom)
+collected [] = Some []
+collected (item.Atom a ∷ is) = more-atoms a (collected is)
+collected (item.Node q n ∷ is) = None
+collected (item.Open q n ∷ is) = None
+collected (item.Close ∷ is) = None
+
+abbrev pub Collects : List Item → Bool → List Atom → Type 0
+Collects is true ls = collected is ≡ Some ls
+Collects is false ls = collected is ≡ None

@@ -1,5 +1,6 @@
 // Readers of terms: a text's words, one ahead, into items.
 pub mod ahead;
+mod collecting;
 pub mod faults;
 mod keeping;
 mod left;

@@ -23,7 +23,7 @@ use Rattle.readers.specs.Rest.{cons, size, fault-number, is-less, is-colon, is
 
 -- a word that goes on, within the limits; one that opens a fifth path; one without a number; one that no text has there
 module _ (l : Limits) (s : ℕ) (w : T.Word) (R : Stream) (σ τ : State) where
-  on : step σ s w ≡ go τ → depth τ ≤ 4 → numbered w ≡ true → load l (word s w R) σ ≡ load l R τ
+  pub on : step σ s w ≡ go τ → depth τ ≤ 4 → numbered w ≡ true → load l (word s w R) σ ≡ load l R τ
   unfolding load
   on e d n = ap (λ (x : Step). checked l (so-far σ) s w x (load l R)) e ∙ cond-false _ _ _ (le-ltb 4 (depth τ) d) ∙ cond-true _ _ _ n
 
@@ -31,7 +31,7 @@ module _ (l : Limits) (s : ℕ) (w : T.Word) (R : Stream) (σ τ : State) where
   unfolding load
   too-deep e d = ap (λ (x : Step). checked l (so-far σ) s w x (load l R)) e ∙ cond-true _ _ _ (lt-ltb 4 (depth τ) d)
 
-  no-number : step σ s w ≡ go τ → depth τ ≤ 4 → numbered w ≡ false → load l (word s w R) σ ≡ refused 10 s
+  pub no-number : step σ s w ≡ go τ → depth τ ≤ 4 → numbered w ≡ false → load l (word s w R) σ ≡ refused 10 s
   unfolding load
   no-number e d n = ap (λ (x : Step). checked l (so-far σ) s w x (load l R)) e ∙ cond-false _ _ _ (le-ltb 4 (depth τ) d) ∙ cond-false _ _ _ n
 

@@ -41,6 +41,13 @@ use Rattle.readers.specs.declared.parser.Parser.{Parser}
 abbrev pub names-of : NameTables → Names
 names-of n = record { nodes = nodes-in n; atoms = atoms-in n }
 
+-- the names with more behind them
+abbrev pub Longer : List (List ℕ) → List (List ℕ) → Type 0
+Longer old new = (more : List (List ℕ)) × (new ≡ old ++ more)
+
+abbrev pub Grown : Names → Names → Type 0
+Grown old new = Longer (old .nodes) (new .nodes) × Longer (old .atoms) (new .atoms)
+
 -- a word in front of a stream; the end and a fault have nothing behind them
 abbrev pub cons : ℕ → Word → Stream → Stream
 cons s (w.Atom a) R = word s (T.Atom-name a) R
@@ -303,6 +310,12 @@ abbrev pub Goes-side : Bool → Stream → Names → List Item → Result Ended 
 Goes-side r S F out (Ok Here) S′ F′ out′ = Through-side r S F out S′ F′ out′
 Goes-side r S F out (Ok (NextEquation m p)) S′ F′ out′ = Through-next r S F out m p S′ F′ out′
 Goes-side r S F out (Err e) S′ F′ out′ = (l : Limits) (h : Head) → gives l S F (side h r ready outside done) ≡ rejected (number e) (place e)
+
+-- the word behind a right side: none that begins a term, or the == of the next equation
+abbrev pub Stops : Bool → Result Ended GrammarFault → Word → Type 0
+Stops r (Ok Here) k = starts k ≡ false
+Stops r (Ok (NextEquation m p)) k = is-next r k ≡ true
+Stops r (Err e) k = Unit {0}
 
 -- The same of a parser and the names, before and after.
 abbrev pub words-left : NameTables → Parser → ℕ

@@ -5,7 +5,7 @@ ghost use Rattle.words.specs.Words.{token};
 ghost use Rattle.words.specs.Texts.{words-of};
 ghost use Rattle.grammar.specs.Texts.{token-word, token-names, numbering, all-names};
 ghost use Rattle.grammar.specs.Loading.{numbered};
-ghost use Rattle.readers.specs.Rest.{Short, word-for, names-of, number, place, fault-number, rest, later, final, size, Moves};
+ghost use Rattle.readers.specs.Rest.{Short, Grown, word-for, names-of, number, place, fault-number, rest, later, final, size, Moves};
 use crate::faults::GrammarFault;
 use crate::faults::GrammarFaultFromWord;
 use crate::faults::GrammarRefusal;
@@ -23,6 +23,7 @@ use words::WordReader;
 fn numbered(names: &mut Names, word: words::Word<'_>) -> Word
     requires { ⌜ Short (token word) ⌝ }
     ensures word { λ r. ⌜ r ≡ word-for (names-of (now (names .entry))) (token (word .entry)) ⌝ }
+    ensures grows { λ _. ⌜ Grown (names-of (now (names .entry))) (names-of (now (names .exit))) ⌝ }
     ensures names { λ r. ⌜ (numbered (token-word (names-of (now (names .entry))) (token (word .entry))) ≡ true → names-of (now (names .exit)) ≡ token-names (names-of (now (names .entry))) (token (word .entry))) ⌝ }
 {
     match word {
@@ -51,6 +52,7 @@ impl<'a> Parser<'a> {
     /// A parser at the text's first word.
     pub fn new(text: &'a [u8], names: &mut Names) -> Parser<'a>
         ensures moves { λ r. ⌜ Moves (numbering (names-of (now (names .entry))) (words-of (now (text .entry)))) (all-names (names-of (now (names .entry))) (words-of (now (text .entry)))) (rest (names-of (now (names .exit))) r) (final (names-of (now (names .exit))) r) ⌝ }
+        ensures grows { λ _. ⌜ Grown (names-of (now (names .entry))) (names-of (now (names .exit))) ⌝ }
         ensures size { λ r. ⌜ size (rest (names-of (now (names .exit))) r) ≡ size (numbering (names-of (now (names .entry))) (words-of (now (text .entry)))) ⌝ }
     {
         let mut parser = Parser {
@@ -65,6 +67,7 @@ impl<'a> Parser<'a> {
     /// On to the next word.
     pub fn advance(&mut self, names: &mut Names)
         ensures moves { λ _. ⌜ Moves (later (names-of (now (names .entry))) (now (self .entry))) (final (names-of (now (names .entry))) (now (self .entry))) (rest (names-of (now (names .exit))) (now (self .exit))) (final (names-of (now (names .exit))) (now (self .exit))) ⌝ }
+        ensures grows { λ _. ⌜ Grown (names-of (now (names .entry))) (names-of (now (names .exit))) ⌝ }
         ensures size { λ _. ⌜ size (rest (names-of (now (names .exit))) (now (self .exit))) ≡ size (later (names-of (now (names .entry))) (now (self .entry))) ⌝ }
     {
         match self.reader.next() {

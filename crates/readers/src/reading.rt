@@ -11,7 +11,7 @@ ghost use Rattle.terms.specs.declared.items.Item.the-variants as item;
 ghost use Rattle.terms.specs.Maps.{node-in-range, item-in-range};
 ghost use Rattle.grammar.specs.Parsing.{ready, noded, coloned, quoting, quoted-node};
 ghost use Rattle.readers.specs.declared.faults.GrammarFault.the-variants as fault;
-ghost use Rattle.readers.specs.Rest.{is-less, is-colon, is-quote, is-greater, starts, is-next, words-left, Reads-terms, Reads-path, Reads-end, Reads-side};
+ghost use Rattle.readers.specs.Rest.{Grown, names-of, is-less, is-colon, is-quote, is-greater, starts, is-next, words-left, Reads-terms, Reads-path, Reads-end, Reads-side, Stops};
 use crate::faults::GrammarFault;
 use crate::faults::GrammarFaultFromName;
 use crate::faults::GrammarRefusal;
@@ -54,7 +54,7 @@ fn is_quote(word: Word) -> bool
     }
 }
 
-fn is_greater(word: Word) -> bool
+pub(crate) fn is_greater(word: Word) -> bool
     ensures { λ r. ⌜ r ≡ is-greater word ⌝ }
 {
     match word {
@@ -72,7 +72,7 @@ fn starts_term(word: Word) -> bool
     }
 }
 
-fn no_number(place: usize) -> GrammarFault
+pub(crate) fn no_number(place: usize) -> GrammarFault
     ensures { λ r. ⌜ r ≡ fault.Name (record { place = place }) ⌝ }
 {
     GrammarFault::from(NameFault { place })
@@ -92,8 +92,10 @@ fn path(
     requires depth { ⌜ left ≤ 4 ⌝ }
     requires named { ⌜ item-in-range (item.Open «quoting» «node») ≡ true ⌝ }
     ensures goes { λ r. ⌜ Reads-path left «quoting» «node» (now (names .entry)) (now (p .entry)) (vec-items (now (items .entry))) r (now (names .exit)) (now (p .exit)) (vec-items (now (items .exit))) ⌝ }
+    ensures grows { λ _. ⌜ Grown (names-of (now (names .entry))) (names-of (now (names .exit))) ⌝ }
     ensures less { λ r. ⌜ (isOk r ≡ true → words-left (now (names .exit)) (now (p .exit)) < words-left (now (names .entry)) (now (p .entry))) ⌝ }
     ensures room { λ r. ⌜ (isOk r ≡ true → vec-len (now (items .exit)) + words-left (now (names .exit)) (now (p .exit)) ≤ vec-cap (now (items .exit))) ⌝ }
+    ensures each { λ r. ⌜ (isOk r ≡ true → vec-len (now (items .exit)) + words-left (now (names .exit)) (now (p .exit)) ≤ vec-len (now (items .entry)) + words-left (now (names .entry)) (now (p .entry))) ⌝ }
 {
     if left == 0 {
         return Err(GrammarFault::Own(GrammarRefusal::TooDeep, p.place));
@@ -114,6 +116,7 @@ fn path(
 
 fn end_quote(p: &mut Parser<'_>, names: &mut Names) -> Result<(), GrammarFault>
     ensures goes { λ r. ⌜ Reads-end (now (names .entry)) (now (p .entry)) r (now (names .exit)) (now (p .exit)) ⌝ }
+    ensures grows { λ _. ⌜ Grown (names-of (now (names .entry))) (names-of (now (names .exit))) ⌝ }
     ensures less { λ r. ⌜ (isOk r ≡ true → words-left (now (names .exit)) (now (p .exit)) ≤ words-left (now (names .entry)) (now (p .entry))) ⌝ }
 {
     if !is_quote(p.word) {
@@ -132,9 +135,11 @@ fn terms(
     requires room { ⌜ vec-len (now items) + words-left (now names) (now p) ≤ vec-cap (now items) ⌝ }
     requires inside { ⌜ left ≤ 3 ⌝ }
     ensures goes { λ r. ⌜ Reads-terms left ready (now (names .entry)) (now (p .entry)) (vec-items (now (items .entry))) r (now (names .exit)) (now (p .exit)) (vec-items (now (items .exit))) ⌝ }
+    ensures grows { λ _. ⌜ Grown (names-of (now (names .entry))) (names-of (now (names .exit))) ⌝ }
     ensures stops { λ r. ⌜ (isOk r ≡ true → starts (now (p .exit) .word) ≡ false) ⌝ }
     ensures less { λ r. ⌜ (isOk r ≡ true → words-left (now (names .exit)) (now (p .exit)) ≤ words-left (now (names .entry)) (now (p .entry))) ⌝ }
     ensures room { λ r. ⌜ (isOk r ≡ true → vec-len (now (items .exit)) + words-left (now (names .exit)) (now (p .exit)) ≤ vec-cap (now (items .exit))) ⌝ }
+    ensures each { λ r. ⌜ (isOk r ≡ true → vec-len (now (items .exit)) + words-left (now (names .exit)) (now (p .exit)) ≤ vec-len (now (items .entry)) + words-left (now (names .entry)) (now (p .entry))) ⌝ }
 {
     while starts_term(p.word) {
         term(p, names, items, left)?;
@@ -152,8 +157,10 @@ fn term(
     requires inside { ⌜ left ≤ 3 ⌝ }
     requires starts { ⌜ starts (now p .word) ≡ true ⌝ }
     ensures goes { λ r. ⌜ Reads-terms left ready (now (names .entry)) (now (p .entry)) (vec-items (now (items .entry))) r (now (names .exit)) (now (p .exit)) (vec-items (now (items .exit))) ⌝ }
+    ensures grows { λ _. ⌜ Grown (names-of (now (names .entry))) (names-of (now (names .exit))) ⌝ }
     ensures less { λ r. ⌜ (isOk r ≡ true → words-left (now (names .exit)) (now (p .exit)) < words-left (now (names .entry)) (now (p .entry))) ⌝ }
     ensures room { λ r. ⌜ (isOk r ≡ true → vec-len (now (items .exit)) + words-left (now (names .exit)) (now (p .exit)) ≤ vec-cap (now (items .exit))) ⌝ }
+    ensures each { λ r. ⌜ (isOk r ≡ true → vec-len (now (items .exit)) + words-left (now (names .exit)) (now (p .exit)) ≤ vec-len (now (items .entry)) + words-left (now (names .entry)) (now (p .entry))) ⌝ }
 {
     if is_less(p.word) {
         path(p, names, items, left, Quoting::Plain, None)
@@ -174,8 +181,10 @@ fn unopened(
     requires unopened { ⌜ is-less (now p .word) ≡ false ⌝ }
     requires depth { ⌜ left ≤ 4 ⌝ }
     ensures goes { λ r. ⌜ Reads-terms left ready (now (names .entry)) (now (p .entry)) (vec-items (now (items .entry))) r (now (names .exit)) (now (p .exit)) (vec-items (now (items .exit))) ⌝ }
+    ensures grows { λ _. ⌜ Grown (names-of (now (names .entry))) (names-of (now (names .exit))) ⌝ }
     ensures less { λ r. ⌜ (isOk r ≡ true → words-left (now (names .exit)) (now (p .exit)) < words-left (now (names .entry)) (now (p .entry))) ⌝ }
     ensures room { λ r. ⌜ (isOk r ≡ true → vec-len (now (items .exit)) + words-left (now (names .exit)) (now (p .exit)) ≤ vec-cap (now (items .exit))) ⌝ }
+    ensures each { λ r. ⌜ (isOk r ≡ true → vec-len (now (items .exit)) + words-left (now (names .exit)) (now (p .exit)) ≤ vec-len (now (items .entry)) + words-left (now (names .entry)) (now (p .entry))) ⌝ }
 {
     match p.word {
         Word::Atom(a) => {
@@ -211,8 +220,10 @@ fn after_node(
     requires depth { ⌜ left ≤ 4 ⌝ }
     requires named { ⌜ node-in-range «node» ≡ true ⌝ }
     ensures goes { λ r. ⌜ Reads-terms left (noded «node») (now (names .entry)) (now (p .entry)) (vec-items (now (items .entry))) r (now (names .exit)) (now (p .exit)) (vec-items (now (items .exit))) ⌝ }
+    ensures grows { λ _. ⌜ Grown (names-of (now (names .entry))) (names-of (now (names .exit))) ⌝ }
     ensures less { λ r. ⌜ (isOk r ≡ true → words-left (now (names .exit)) (now (p .exit)) ≤ words-left (now (names .entry)) (now (p .entry))) ⌝ }
     ensures room { λ r. ⌜ (isOk r ≡ true → vec-len (now (items .exit)) + words-left (now (names .exit)) (now (p .exit)) ≤ vec-cap (now (items .exit))) ⌝ }
+    ensures each { λ r. ⌜ (isOk r ≡ true → vec-len (now (items .exit)) + words-left (now (names .exit)) (now (p .exit)) ≤ 1 + vec-len (now (items .entry)) + words-left (now (names .entry)) (now (p .entry))) ⌝ }
 {
     if is_colon(p.word) {
         p.advance(names);
@@ -232,8 +243,10 @@ fn after_quote(
     requires room { ⌜ vec-len (now items) + words-left (now names) (now p) ≤ vec-cap (now items) ⌝ }
     requires depth { ⌜ left ≤ 4 ⌝ }
     ensures goes { λ r. ⌜ Reads-terms left quoting (now (names .entry)) (now (p .entry)) (vec-items (now (items .entry))) r (now (names .exit)) (now (p .exit)) (vec-items (now (items .exit))) ⌝ }
+    ensures grows { λ _. ⌜ Grown (names-of (now (names .entry))) (names-of (now (names .exit))) ⌝ }
     ensures less { λ r. ⌜ (isOk r ≡ true → words-left (now (names .exit)) (now (p .exit)) ≤ words-left (now (names .entry)) (now (p .entry))) ⌝ }
     ensures room { λ r. ⌜ (isOk r ≡ true → vec-len (now (items .exit)) + words-left (now (names .exit)) (now (p .exit)) ≤ vec-cap (now (items .exit))) ⌝ }
+    ensures each { λ r. ⌜ (isOk r ≡ true → vec-len (now (items .exit)) + words-left (now (names .exit)) (now (p .exit)) ≤ vec-len (now (items .entry)) + words-left (now (names .entry)) (now (p .entry))) ⌝ }
 {
     match p.word {
         Word::Less => path(p, names, items, left, Quoting::Quoted, None),
@@ -259,8 +272,10 @@ fn after_quoted_node(
     requires depth { ⌜ left ≤ 4 ⌝ }
     requires named { ⌜ node-in-range «node» ≡ true ⌝ }
     ensures goes { λ r. ⌜ Reads-terms left (quoted-node «node») (now (names .entry)) (now (p .entry)) (vec-items (now (items .entry))) r (now (names .exit)) (now (p .exit)) (vec-items (now (items .exit))) ⌝ }
+    ensures grows { λ _. ⌜ Grown (names-of (now (names .entry))) (names-of (now (names .exit))) ⌝ }
     ensures less { λ r. ⌜ (isOk r ≡ true → words-left (now (names .exit)) (now (p .exit)) ≤ words-left (now (names .entry)) (now (p .entry))) ⌝ }
     ensures room { λ r. ⌜ (isOk r ≡ true → vec-len (now (items .exit)) + words-left (now (names .exit)) (now (p .exit)) ≤ vec-cap (now (items .exit))) ⌝ }
+    ensures each { λ r. ⌜ (isOk r ≡ true → vec-len (now (items .exit)) + words-left (now (names .exit)) (now (p .exit)) ≤ vec-len (now (items .entry)) + words-left (now (names .entry)) (now (p .entry))) ⌝ }
 {
     if is_colon(p.word) {
         p.advance(names);
@@ -287,8 +302,10 @@ fn named_path(
     requires depth { ⌜ left ≤ 4 ⌝ }
     requires named { ⌜ node-in-range «node» ≡ true ⌝ }
     ensures goes { λ r. ⌜ Reads-terms left (coloned «quoting» «node») (now (names .entry)) (now (p .entry)) (vec-items (now (items .entry))) r (now (names .exit)) (now (p .exit)) (vec-items (now (items .exit))) ⌝ }
+    ensures grows { λ _. ⌜ Grown (names-of (now (names .entry))) (names-of (now (names .exit))) ⌝ }
     ensures less { λ r. ⌜ (isOk r ≡ true → words-left (now (names .exit)) (now (p .exit)) ≤ words-left (now (names .entry)) (now (p .entry))) ⌝ }
     ensures room { λ r. ⌜ (isOk r ≡ true → vec-len (now (items .exit)) + words-left (now (names .exit)) (now (p .exit)) ≤ vec-cap (now (items .exit))) ⌝ }
+    ensures each { λ r. ⌜ (isOk r ≡ true → vec-len (now (items .exit)) + words-left (now (names .exit)) (now (p .exit)) ≤ vec-len (now (items .entry)) + words-left (now (names .entry)) (now (p .entry))) ⌝ }
 {
     if !is_less(p.word) {
         return Err(p.misplaced());
@@ -309,7 +326,7 @@ fn begins_next(round: bool, word: Word) -> bool
 }
 
 /// The terms of a right side, in ( ) where `round` is true, up to the word that ends them.
-pub fn right_side(
+pub(crate) fn right_side(
     p: &mut Parser<'_>,
     names: &mut Names,
     items: &mut Vec<Item>,
@@ -317,6 +334,11 @@ pub fn right_side(
 ) -> Result<Ended, GrammarFault>
     requires room { ⌜ vec-len (now items) + words-left (now names) (now p) ≤ vec-cap (now items) ⌝ }
     ensures goes { λ r. ⌜ Reads-side round (now (names .entry)) (now (p .entry)) (vec-items (now (items .entry))) r (now (names .exit)) (now (p .exit)) (vec-items (now (items .exit))) ⌝ }
+    ensures grows { λ _. ⌜ Grown (names-of (now (names .entry))) (names-of (now (names .exit))) ⌝ }
+    ensures stops { λ r. ⌜ Stops round r (now (p .exit) .word) ⌝ }
+    ensures less { λ r. ⌜ (isOk r ≡ true → words-left (now (names .exit)) (now (p .exit)) ≤ words-left (now (names .entry)) (now (p .entry))) ⌝ }
+    ensures room { λ r. ⌜ (isOk r ≡ true → vec-len (now (items .exit)) + words-left (now (names .exit)) (now (p .exit)) ≤ vec-cap (now (items .exit))) ⌝ }
+    ensures each { λ r. ⌜ (isOk r ≡ true → vec-len (now (items .exit)) + words-left (now (names .exit)) (now (p .exit)) ≤ vec-len (now (items .entry)) + words-left (now (names .entry)) (now (p .entry))) ⌝ }
 {
     while starts_term(p.word) {
         if is_less(p.word) {

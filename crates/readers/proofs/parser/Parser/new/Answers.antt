@@ -12,5 +12,6 @@ returns c =
     ap (λ (x : List ℕ). words-from x (c .new .result .at)) (c .new .ensures .0) ∙ ap (λ (a : ℕ). words-from (c .args .text .now) a) (c .new .ensures .1) in
     record {
       moves = λ l σ. ap (λ (W : Words). gives l (numbering (names-of (c .args .names .now)) W) (all-names (names-of (c .args .names .now)) W) σ) (sym e) ∙ c .advance .ensures .moves l σ;
+      grows = c .advance .ensures .grows;
       size = c .advance .ensures .size ∙ ap (λ (W : Words). size (numbering (names-of (c .args .names .now)) W)) e;
     }

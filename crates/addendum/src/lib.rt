@@ -1,4 +1,6 @@
 // The addendum table: few sentences, which can stand over another store.
+#![tactic(auto)]
+
 ghost use Rattle.std.specs.Prelude.{◌≡◌};
 ghost use Rattle.listed.specs.Held.{room_in};
 

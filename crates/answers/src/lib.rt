@@ -1,4 +1,6 @@
 // Lines of input and the lines that answer them.
+#![tactic(auto)]
+
 mod answer;
 mod input;
 mod line;

@@ -1,4 +1,6 @@
 // Entries that are numbered from 0 and stand in buckets, those of one bucket chained from the last back to the first.
+#![tactic(auto)]
+
 ghost use Rattle.std.specs.Prelude.{◌≡◌, ℕ, ◌<◌, ◌≤◌, length, take, None, vec_capacity, nat_eq, slice_index, slice_index_or};
 ghost use Rattle.chains.specs.Last.{last_by};
 

@@ -1,4 +1,6 @@
 // The machine that works a question over a store, item by item: the table of open sentences, and what is being built.
+#![tactic(auto)]
+
 mod machine;
 mod shown;
 mod steps;

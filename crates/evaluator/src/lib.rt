@@ -1,4 +1,6 @@
 // The evaluator: begin, work, give up, and what is shown.
+#![tactic(auto)]
+
 mod answers;
 mod evaluator;
 

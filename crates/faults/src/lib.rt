@@ -1,4 +1,6 @@
 // Why a text is not loaded: a fault of each layer, with the lower one whole inside it.
+#![tactic(auto)]
+
 mod keeper_fault;
 mod kinds;
 mod numbers;

@@ -1,4 +1,6 @@
 // What can be done with any keeper and any store: filling one from a list of sentences, and reading a right side.
+#![tactic(auto)]
+
 ghost use Rattle.std.specs.Prelude.{◌≡◌, ◌+◌, ◌<◌, [], length, take, Ok};
 ghost use Rattle.stores.specs.Items.{items_of};
 ghost use Rattle.stores.specs.Refusals.{answer, or_else};

@@ -1,4 +1,6 @@
 // The flat list: the sentences of a theory, one after the other.
+#![tactic(auto)]
+
 ghost use Rattle.std.specs.Prelude.{◌≡◌};
 ghost use Rattle.listed.specs.Held.{room_in};
 

@@ -1,4 +1,6 @@
 // forms: reads a theory and its addendum from the current folder.
+#![tactic(auto)]
+
 mod texts;
 
 use std::fs;

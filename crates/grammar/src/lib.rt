@@ -1,4 +1,6 @@
 // The grammar of theory text: trees and the words that spell them, loading word by word, and that the two agree.
+#![tactic(auto)]
+
 ghost use Rattle.grammar.specs.Theorems.{Exact, Single, LoadExact, FourExact};
 ghost use Rattle.grammar.specs.Naming.{NamesAreNumberedAsMet, KeptExactlyIfATheoryIsSpelt, FourIsAtTheFirstMisplacedWord};
 

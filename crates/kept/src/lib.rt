@@ -1,4 +1,6 @@
 // What every keeper keeps: sentence records, and the atoms and items of which each record tells its part.
+#![tactic(auto)]
+
 ghost use Rattle.std.specs.Prelude.{◌≡◌, ◌<◌, ◌≤◌, length, vec_capacity};
 ghost use Rattle.stores.specs.Sentences.{atoms_in, items_in};
 ghost use Rattle.kept.specs.Parts.{sentences, Inside};

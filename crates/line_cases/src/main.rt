@@ -1,4 +1,6 @@
 // Lines of every kind, and every refusal of a line.
+#![tactic(auto)]
+
 mod theory;
 
 use evaluator::Evaluator;

@@ -1,4 +1,6 @@
 // The lines that the program writes.
+#![tactic(auto)]
+
 mod content;
 mod known;
 mod parts;

@@ -1,4 +1,6 @@
 // Sentences in the order of adding, found by a table of their pairs: what flat list and addendum share.
+#![tactic(auto)]
+
 ghost use Rattle.std.specs.Prelude.{◌≡◌, ◌<◌, ◌≤◌, true, List, map};
 ghost use Rattle.terms.specs.declared.items.Node.{Node as NodeOf};
 ghost use Rattle.terms.specs.declared.items.Atom.{Atom as AtomOf};

@@ -1,4 +1,6 @@
 // Loading a text into a keeper: readers of terms, sentences and blocks.
+#![tactic(auto)]
+
 mod blocks;
 mod collecting;
 mod ends;

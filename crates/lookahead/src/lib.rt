@@ -1,4 +1,6 @@
 // The words of a text, one ahead, with their names numbered.
+#![tactic(auto)]
+
 mod ahead;
 mod parser;
 mod word;

@@ -1,4 +1,6 @@
 // An evaluation by steps, as definitions: what is held between steps, what a step makes of it, and that this gives the outcome.
+#![tactic(auto)]
+
 ghost use Rattle.std.specs.Prelude.{◌≡◌};
 ghost use Rattle.machine.specs.Bounds.{asked_limit};
 ghost use Rattle.machine.specs.Theorems.{StepsShowTheOutcome, StepsTakenAreReported, StepsAddUp, StoreIsAskedWithinLimit};

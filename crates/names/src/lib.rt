@@ -1,4 +1,6 @@
 // Names and their numbers.
+#![tactic(auto)]
+
 ghost use Rattle.std.specs.Prelude.{◌≡◌, ℕ, ◌<◌, true, List, [], length, take, IfOk, slice_index_or};
 ghost use Rattle.std.specs.Option.{option_map};
 ghost use Rattle.names.specs.Numbers.{number, name_at, number_or_none, names_after};

@@ -1,4 +1,6 @@
 // A path of at most 32 atoms, held in place.
+#![tactic(auto)]
+
 ghost use Rattle.std.specs.Prelude.{◌≡◌, ◌≤◌, length};
 ghost use Rattle.terms.specs.Limits.{path_limit};
 

@@ -1,4 +1,6 @@
 // A pile: an addendum over any store. It is a store again, so that piles can be piled.
+#![tactic(auto)]
+
 ghost use Rattle.std.specs.Prelude.{◌≡◌};
 ghost use Rattle.stores.specs.Piles.{pile_meaning, larger};
 ghost use Rattle.addendum.specs.Held.{meaning_in};

@@ -1,4 +1,6 @@
 // What a pile finds: an addendum over a theory, and one more over both.
+#![tactic(auto)]
+
 use addendum::Addendum;
 use flat::FlatList;
 use pile::Pile;

@@ -1,4 +1,6 @@
 // Lines, and what each asks: the node and the atoms by their numbers, or nothing, or the fault; then how many names there are.
+#![tactic(auto)]
+
 mod cases;
 
 use names::Names;

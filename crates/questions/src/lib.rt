@@ -1,4 +1,6 @@
 // Questions: lines of input, each a node, a colon and a path of atoms.
+#![tactic(auto)]
+
 ghost use Rattle.std.specs.Prelude.{◌≡◌};
 ghost use Rattle.questions.specs.Lines.{read_line, names_left, line_of, names_of};
 ghost use Rattle.questions.specs.Questions.{IsReadRightly};

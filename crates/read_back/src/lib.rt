@@ -1,4 +1,6 @@
 // What is written is read back: the bytes of questions and values, and the words that they have.
+#![tactic(auto)]
+
 ghost use Rattle.read_back.specs.Theorems.{QuestionsComeBack, ValuesComeBack, NamesStaySpellable};
 
 /// A question that is written under spellable names reads as that question, and has no new name.

@@ -1,4 +1,6 @@
 // Readers of terms: a text's words, one ahead, into items.
+#![tactic(auto)]
+
 pub mod ahead;
 mod collecting;
 pub mod faults;

@@ -1,4 +1,6 @@
 // What evaluation means: Keller's rules, the outcome of a question with its steps, and that they agree.
+#![tactic(auto)]
+
 ghost use Rattle.rules.specs.Theorems.{MostSpecificIsFound, SameQuestionIsEquality, TableDerivesAsKeller, DerivationsAgree, ValuesAreDerivedWithinTheLimits, DerivedValuesAreOutcomes, StopsMeanNoDerivation, AllIsShownByTheRules};
 ghost use Rattle.rules.specs.Worked.{WorkedTheoryComesTo, LampBySteps};
 ghost use Rattle.rules.specs.QuestionTable.{QuestionsAreAsInTheTable};

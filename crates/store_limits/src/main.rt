@@ -1,4 +1,6 @@
 // Every keeper at its limits: the last sentence, atom and item that it takes, and the first that it does not.
+#![tactic(auto)]
+
 use addendum::Addendum;
 use flat::FlatList;
 use stores::{Keeper, Refusal, Store};

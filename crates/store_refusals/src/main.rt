@@ -1,4 +1,6 @@
 // What every keeper refuses, and which refusal comes first.
+#![tactic(auto)]
+
 use addendum::Addendum;
 use flat::FlatList;
 use stores::{Keeper, Refusal, Store};

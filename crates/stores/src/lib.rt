@@ -1,4 +1,6 @@
 // What a store is: it means a map, and answers by it; and what a keeper is: a store that takes sentences.
+#![tactic(auto)]
+
 ghost use Rattle.std.specs.Prelude.{◌≡◌, List, []};
 ghost use Rattle.terms.specs.Maps.{Meaning};
 ghost use Rattle.terms.specs.LookUp.{look_up, length_found};

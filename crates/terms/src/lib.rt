@@ -1,4 +1,6 @@
 // The terms of DATR and what a store means.
+#![tactic(auto)]
+
 ghost use Rattle.terms.specs.Terms.{BalancedItemsAreTermLists, ItemsReadBack};
 ghost use Rattle.terms.specs.LookUp.{LookUpFindsTheLongest};
 ghost use Rattle.terms.specs.Boundaries.{SentencesEndAtTheLimits};

@@ -1,4 +1,6 @@
 // The prefix tree: left paths that begin alike share their beginning.
+#![tactic(auto)]
+
 ghost use Rattle.std.specs.Prelude.{◌≡◌, ◌+◌, ◌≤◌, true, List, length};
 ghost use Rattle.terms.specs.declared.items.Node.{Node as NodeOf};
 ghost use Rattle.terms.specs.declared.items.Atom.{Atom as AtomOf};

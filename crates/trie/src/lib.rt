@@ -1,4 +1,6 @@
 // A tree of edges with labels, and marks at its places. Place 0 is the top, and place i + 1 is where edge i leads.
+#![tactic(auto)]
+
 ghost use Rattle.std.specs.Prelude.{◌≡◌, ◌+◌, ◌<◌, ◌≤◌, map, length, vec_capacity};
 ghost use Rattle.chains.specs.Held.{buckets_in, width_in, room_in as chains-room};
 ghost use Rattle.trie.specs.Ways.{bucket_of_lem, Rising};

@@ -1,4 +1,6 @@
 // Cases of the word reader: texts, and the words that they have by the rules.
+#![tactic(auto)]
+
 #[cfg(test)]
 mod cases;
 

@@ -1,4 +1,6 @@
 // The words of theory text.
+#![tactic(auto)]
+
 mod faults;
 mod reader;
 mod scan;

@@ -1,4 +1,6 @@
 // Evaluates the worked theory over each store, one granted step at a time, and prints what is shown; then the limits and the refusals.
+#![tactic(auto)]
+
 mod calls;
 mod limits;
 mod print;

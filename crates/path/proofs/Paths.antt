@@ -1,8 +1,9 @@
 -- The atoms of a path, counted, joined and compared.
 use Rattle.std.proofs.Common.{◌≡◌, ℕ, ◌+◌, ◌-◌, ◌<◌, ◌≤◌, Bool, eqb, List, [], ◌∷◌, ◌++◌, length, get_or, take, drop, Decides, sym, refl, ap, ◌∙◌, append_assoc, arith, length-append, length-drop}
-use Rattle.std.specs.Cmp.Lexicographic.{Matches}
-use Rattle.std.proofs.lemmas.Bool.Decides.{same_from_decides, Decides-eqb, Decides-and}
-use Rattle.std.proofs.lemmas.Slice.Eq.{slice_eq-Decides}
+use Rattle.std.specs.Prelude.{nat_eq, ◌&&◌}
+use Rattle.std.specs.Ordering.{on}
+use Rattle.std.specs.Cmp.Lexicographic.{pointwise}
+use Rattle.std.proofs.lemmas.Bool.Decides.{Decides-eqb, Decides-and}
 use Rattle.std.proofs.lemmas.List.{length-take-le, take_more, take_all, take-append-le, take-append-drop}
 use Rattle.terms.specs.declared.items.Atom.{Atom}
 use Rattle.terms.specs.Limits.{path_limit}
@@ -29,8 +30,14 @@ same_atoms_decides (a ∷ x) (b ∷ y) =
     apart : a ∷ x ≡ b ∷ y → (a.0 ≡ b.0) × (x ≡ y)
     apart e = let h : a ≡ b = cc in (ap (λ c. c.0) h, cc)
 
-pub matches_same : (x y : List Atom) (r : Bool) → Matches (λ (a b : Atom) (t : Bool). Decides t (a ≡ b)) x y r → r ≡ same_atoms x y
-matches_same x y r m = same_from_decides r (same_atoms x y) (slice_eq-Decides Decides-eqb x y r m) (same_atoms_decides x y)
+pub pointwise_same : (x y : List Atom) → pointwise (on (λ (v : Atom). v.0) nat_eq) x y ≡ same_atoms x y
+pointwise_same [] [] = refl
+pointwise_same [] (b ∷ y) = refl
+pointwise_same (a ∷ x) [] = refl
+pointwise_same (a ∷ x) (b ∷ y) = ap (λ t. eqb a.0 b.0 && t) (pointwise_same x y)
+
+pub matches_same : (x y : List Atom) (r : Bool) → r ≡ pointwise (on (λ (v : Atom). v.0) nat_eq) x y → r ≡ same_atoms x y
+matches_same x y r m = m ∙ pointwise_same x y
 
 -- one more of the atoms that are joined on
 pub one_more : (s u last more : List Atom) (i : ℕ) → i < length more → u ≡ s ++ take i more → last ≡ u ++ get_or more i (record { 0 = 0 }) ∷ []

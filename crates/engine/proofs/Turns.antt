@@ -1,4 +1,4 @@
--- What an item and a look_up do to a machine, over a map within the limits.
+-- What an item and a look-up do to a machine, over a map within the limits.
 use Rattle.std.proofs.Common.{◌≡◌, ℕ, suc, ◌+◌, ◌<◌, ◌≤◌, true, false, List, [], ◌∷◌, map, length, Some, None, vec_items, vec_len, Option, sym, refl, ap, ◌∙◌, subst, add-zero, add-suc, add-one, arith}
 use Rattle.std.proofs.lemmas.Bool.Decides.{nat_tests}
 use Rattle.terms.specs.declared.items.Atom.{Atom}
@@ -122,7 +122,7 @@ module _ (M : Map) (lawful : Lawful M) where
         let g : progress_of z ≡ took (next_item M (positions_in m)) w = f ∙ ap (took (next_item M (positions_in m))) (at_work m p) in
         subst (λ x. Turned x (progress_of z)) (sym (at_work m p)) (subst (λ x. Turned w x) (sym g) t)
 
-  -- the look_up for the question that a machine asks
+  -- the look-up for the question that a machine asks
   module _ (m : Machine) (p : m.phase ≡ phase.Asks) (k : Option ℕ) (e : k ≡ length_found (look_up (M m.asked.node) (atoms_of m.asked.path))) where
     at_ask : progress_of m ≡ reached (asks (question_of m.asked) (positions_in m) (built_in m))
     at_ask = ap (λ x. parts x m.asked (vec_items m.table) (vec_items m.insides) (vec_items m.value)) p

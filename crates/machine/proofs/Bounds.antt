@@ -176,7 +176,7 @@ pub took_falls : (M : Map) → Lawful M → (o : Position) (os : List Position) 
 took_falls M l o os h None e = closed_falls o os h
 took_falls M l o os h (Some i) e = item_falls i o os h (small_place M l o i e)
 
--- a look_up opens no path
+-- a look-up opens no path
 pub looked_up_insides : (M : Map) (q : Question) (os : List Position) (h : Built) → InsidesMatch M (reached (asks q os h))
     → InsidesMatch M (looked_up (length_found (look_up (M q.node) q.path)) q os h)
 looked_up_insides M q os h v = by_look (look_up (M q.node) q.path) (look_tells (M q.node) q.path)

@@ -1,6 +1,5 @@
 -- An item that is taken leaves what the step comes to.
 use Rattle.std.proofs.Common.{◌≡◌, ℕ, zero, suc, ◌+◌, ◌-◌, List, [], ◌∷◌, map, length, take, drop, Some, None, Option, sym, refl, ap, ◌∙◌, subst, append-nil, add-one}
-use Rattle.terms.specs.declared.items.Atom.{Atom}
 use Rattle.terms.specs.declared.items.Item.{Item}
 use Rattle.terms.specs.Limits.{open_limit}
 use Rattle.terms.specs.Terms.{Terms, flat, read, in_path}
@@ -11,7 +10,7 @@ use Rattle.rules.specs.Outcomes.{Stop}
 use Rattle.rules.specs.Evaluation.{barred}
 use Rattle.terms.specs.LookUp.{Look, found, nothing, look_up, length_found}
 use Rattle.terms.proofs.LookUp.{Tells, look_tells}
-use Rattle.machine.specs.Steps.{Built, whole, inside, room, full, put, Open, open_sentence, questions, asks, stops, allowed, pose, work_terms, work_sentences, looked, next}
+use Rattle.machine.specs.Steps.{Built, whole, inside, room, full, put, open_sentence, questions, asks, stops, allowed, pose, work_terms, work_sentences, looked, next}
 use Rattle.stores.specs.Items.{item_at, items_of}
 use Rattle.machine.specs.Items.{Position, position, onward, right_side, reading, standing, questions_at, working, reached, meant_state, meant, comes_to, closed, took_item, took, looked_up}
 use Rattle.machine.proofs.Standing.{read_flat, Shut, shut_flat, shut_drop, drop_some, drop_none}
@@ -84,7 +83,7 @@ took_comes_to M o os h (Some i) e =
     (ap (λ k. drop k (right_side M o)) (add-one o.place))
     ∙ sym (ap (λ x. work_sentences (reading o (read x) ∷ map (standing M) os) h) d)
 
--- A look_up's answer begins the work of a step.
+-- A look-up's answer begins the work of a step.
 pub looked_up_comes_to : (M : Map) (q : Question) (os : List Position) (h : Built)
     → comes_to (meant M (looked_up (length_found (look_up (M q.node) q.path)) q os h)) ≡ next M (meant_state M (asks q os h))
 unfolding next

@@ -1,5 +1,5 @@
 -- What stands at a place of a right side.
-use Rattle.std.proofs.Common.{◌≡◌, ℕ, zero, suc, ◌+◌, List, [], ◌∷◌, ◌++◌, drop, Some, None, sym, refl, ap, ◌∙◌, subst, append_assoc, append-nil, arith}
+use Rattle.std.proofs.Common.{◌≡◌, ℕ, zero, suc, List, [], ◌∷◌, ◌++◌, drop, Some, None, sym, refl, ap, ◌∙◌, subst, append_assoc, append-nil, arith}
 use Rattle.terms.specs.declared.items.Item.{Item}
 use Rattle.terms.specs.Terms.{Terms, done, atom, node, path, Reading, flat, read, in_path}
 use Rattle.stores.specs.Items.{item_at}

@@ -1,9 +1,8 @@
 -- So many steps give the outcome, or leave it unfinished.
-use Rattle.std.proofs.Common.{◌≡◌, ℕ, zero, suc, ◌+◌, ◌-◌, min, Bool, true, false, leb, sym, refl, ap, ◌∙◌, suc-add, zero-add, one-add, arith}
+use Rattle.std.proofs.Common.{◌≡◌, ℕ, zero, suc, ◌+◌, min, Bool, true, false, leb, sym, refl, ap, ◌∙◌, suc-add, zero-add, one-add, arith}
 use lib.Dec.{leb-zero, leb-suc-zero, leb-suc-suc}
 use Rattle.terms.specs.Maps.{Map}
 use Rattle.rules.specs.Outcomes.{Outcome, value, stopped, later}
-use Rattle.rules.specs.Evaluation.{outcome}
 use Rattle.rules.specs.Shown.{Shown, unfinished, settled, shown, steps}
 use Rattle.machine.specs.Steps.{Open, State, asks, has, stops, next, after, step_of, steps_taken, start}
 use Rattle.machine.specs.ToCome.{to_come}

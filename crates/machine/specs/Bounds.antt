@@ -45,7 +45,7 @@ work_left (working os b) = items_left os
 work_left (reached p) = 0
 
 -- `Asked M w steps n z`: from w the evaluation comes to z in so many steps, for which the store of the map M is asked n times: once
--- for the look_up of each step, and once for each item that it works and for the end of each right side.
+-- for the look-up of each step, and once for each item that it works and for the end of each right side.
 pub data Asked (M : Map) (w : Progress Position) : ℕ → ℕ → Progress Position → Type 0 where
   not_yet : Asked M w 0 0 w
   for_a_look_up : {steps n : ℕ} (q : Question) (os : List Position) (b : Built) → Asked M w steps n (reached (asks q os b))
@@ -53,6 +53,6 @@ pub data Asked (M : Map) (w : Progress Position) : ℕ → ℕ → Progress Posi
   for_an_item : {steps n : ℕ} (o : Position) (os : List Position) (b : Built) → Asked M w steps n (working (o ∷ os) b)
       → Asked M w steps (suc n) (took (item_at (right_side M o) o.place) (working (o ∷ os) b))
 
--- how often one step can ask the store: once for its look_up, and for all items and the end of each open sentence's right side
+-- how often one step can ask the store: once for its look-up, and for all items and the end of each open sentence's right side
 abbrev pub asked_limit : ℕ
 asked_limit = 1 + open_limit * (item_limit + 1)

@@ -85,7 +85,7 @@ unfoldable pub work_sentences : List Open → Built → State Open
 work_sentences [] b = has (so_far b)
 work_sentences (o ∷ opens) b = work_terms o.at o.left o.now o.behind opens b (work_sentences opens)
 
--- one step: the look_up, and the work that follows it
+-- one step: the look-up, and the work that follows it
 abbrev pub looked : Question → List Open → Built → Look → State Open
 looked q opens b nothing = stops Stop.undefined
 looked q opens b (found k t) = work_sentences (open_sentence q k t [] ∷ opens) b

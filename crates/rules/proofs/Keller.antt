@@ -262,7 +262,7 @@ works M L s α h (Terms.path Plain None φ rest) (pair {u = u} a b g) = a_path s
 works M L s α h (Terms.path Quoted (Some n) φ rest) (quoted_pair {u = u} a b g) = a_path s u (works M L s α h φ a) b refl (works M L s α h rest g)
 works M L s α h (Terms.path Quoted None φ rest) (quoted_path {u = u} a b g) = a_path s u (works M L s α h φ a) b refl (works M L s α h rest g)
 
--- the sentence that is most specific is the one that the look_up finds
+-- the sentence that is most specific is the one that the look-up finds
 
 record Looked (M : Map) (N : Node) (α γ : List Atom) (φ : Descs) : Type 0 where
   terms : Terms

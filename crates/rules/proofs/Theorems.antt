@@ -1,5 +1,5 @@
 -- The theorems over Keller's rules, from those over the table of questions.
-use Rattle.std.proofs.Common.{◌≡◌, ◌<◌, List, length, sym, refl, ◌∙◌, arith}
+use Rattle.std.proofs.Common.{◌≡◌, ◌<◌, List, sym, refl, ◌∙◌, arith}
 use Rattle.terms.specs.declared.items.Atom.{Atom}
 use Rattle.terms.specs.Limits.{open_limit}
 use Rattle.rules.specs.Keller.{Derives, def_uses, def_depth}

@@ -45,7 +45,7 @@ abbrev pub unless : Option Stop → (Unit {0} → Outcome) → Outcome
 unless (Some s) f = stopped s 0
 unless None f = f tt
 
--- one step: the look_up, and all work up to the next question
+-- one step: the look-up, and all work up to the next question
 abbrev pub step : Look → (ℕ → Terms → Outcome) → Outcome
 step nothing f = stopped Stop.undefined 1
 step (found k t) f = later 1 (f k t)

@@ -13,7 +13,7 @@ use Rattle.rules.specs.Outcomes.{Stop, value, stopped}
 use Rattle.rules.specs.Evaluation.{same_question, outcome}
 use Rattle.rules.specs.Shown.{Shown, unfinished, shows, ended, steps, shown, reported}
 
--- The sentence that Keller's Def uses is the one that the look_up finds, written out.
+-- The sentence that Keller's Def uses is the one that the look-up finds, written out.
 abbrev pub MostSpecificIsFound : Type 0
 MostSpecificIsFound = (M : Map) (N : Node) (α γ : List Atom) (φ : Descs)
     → MostSpecific (theory M) N α γ φ ↔ ((t : Terms) × (look_up (M N) (α ++ γ) ≡ found (length α) t) × (φ ≡ written_out N α t))

@@ -1,12 +1,11 @@
 -- One turn of the count of a text's words.
-use Rattle.std.proofs.Common.{◌≡◌, ℕ, suc, ◌+◌, ◌-◌, ◌<◌, ◌≤◌, Bool, true, false, List, ◌++◌, length, drop, Ok, Err, Result, sym, refl, ap, ◌∙◌, subst, arith, length-drop, Bor}
-use Rattle.words.specs.declared.faults.WordFault.{WordFault}
+use Rattle.std.proofs.Common.{◌≡◌, ℕ, suc, ◌+◌, ◌-◌, ◌<◌, ◌≤◌, true, false, List, length, drop, Ok, Err, sym, refl, ap, ◌∙◌, subst, arith, length-drop, Bor}
 use Rattle.words.specs.declared.faults.WordRefusal.{WordRefusal}
 use Rattle.words.specs.declared.tally.Tally.{Tally}
 use Rattle.words.specs.declared.word.Word.{Word}
 use Rattle.words.specs.declared.word.Word.TheVariants as word
-use Rattle.words.specs.Words.{Token, token, Reading, read, refused, word_at}
-use Rattle.words.specs.Texts.{Words, end_at, onward, continued, words_within, words_from, words_of, Reads}
+use Rattle.words.specs.Words.{Token, token, read, refused, word_at}
+use Rattle.words.specs.Texts.{Words, onward, continued, words_from, words_of, Reads}
 use Rattle.words.specs.Tallies.{is_end_lem, none, counted, tallied}
 use Rattle.words.proofs.Exact.{reads_from, goes_on, word_bounds, next_words}
 

@@ -1,10 +1,9 @@
 -- The words of a whole text: it is read as they say, and in no other way.
 use Rattle.std.proofs.Common.{◌≡◌, ℕ, zero, suc, ◌+◌, ◌-◌, ◌<◌, ◌≤◌, Bool, true, false, cond, not, eqb, List, [], ◌∷◌, ◌++◌, length, take, drop, sym, refl, ap, ◌∙◌, subst, arith, length-append, length-drop, take-append-drop, length-take-le, drop-drop}
 use lib.Seq.{drop-append_seam}
-use Rattle.words.specs.declared.faults.WordRefusal.{WordRefusal}
 use Rattle.words.specs.Words.{Token, Reading, read, refused, blank_byte, name_limit, gap, word_from, word_at}
-use Rattle.words.specs.Texts.{Gap, Spells, Faulty, Words, end_at, fault_at, onward, continued, words_within, words_from, words_of, word_count, Reads, WordsAreExact}
-use Rattle.words.proofs.Law.{Starts, Passed, gap_passes, gap_stops, gap_is, Spelt, Says, word_says, spelt_starts, faulty_starts, word_is, fault_is, append_nil}
+use Rattle.words.specs.Texts.{Gap, Spells, Words, end_at, fault_at, onward, continued, words_within, words_from, words_of, word_count, Reads, WordsAreExact}
+use Rattle.words.proofs.Law.{Starts, gap_passes, gap_stops, gap_is, Says, word_says, spelt_starts, faulty_starts, word_is, fault_is, append_nil}
 
 -- A word that bytes spell is not the text's end, and has a byte.
 pub spelt_some : {t : Token} {w rest : List ℕ} → Spells t w rest → (t ≡ Token.text_end → ⊥) × (1 ≤ length w)

@@ -1,7 +1,7 @@
 -- A text is read as its words, and in no other way.
-use Rattle.std.proofs.Common.{◌≡◌, ℕ, zero, suc, ◌+◌, ◌-◌, ◌<◌, ◌≤◌, Bool, true, false, cond, not, ◌&&◌, eqb, leb, List, [], ◌∷◌, ◌++◌, length, get_or, take, drop, Some, sym, refl, ap, ◌∙◌, subst, append_assoc, add-one, one-add, arith, length-append, take-append-drop, length-take-le, drop-drop}
+use Rattle.std.proofs.Common.{◌≡◌, ℕ, suc, ◌+◌, ◌<◌, ◌≤◌, Bool, true, false, cond, not, ◌&&◌, eqb, leb, List, [], ◌∷◌, ◌++◌, length, get_or, take, drop, Some, sym, refl, ap, ◌∙◌, subst, append_assoc, one-add, arith, length-append, take-append-drop, length-take-le}
 use Rattle.std.proofs.lemmas.Bool.{eqb-true, leb-true, leb-false, le-leb, lt-leb, and_from, cond-true, cond-false}
-use lib.Seq.{take-append_seam, drop-append_seam}
+use lib.Seq.{take-append_seam}
 use Rattle.std.proofs.lemmas.List.Sums.{prefix_len-le-length}
 use Rattle.std.specs.List.{prefix_len}
 use Rattle.classes.proofs.Marks.{byte_of_mark}
@@ -11,9 +11,9 @@ use Rattle.classes.specs.declared.ByteClass.{ByteClass}
 use Rattle.classes.specs.declared.ByteClass.TheVariants as class
 use Rattle.classes.specs.Classes.{control, class_of, mark_byte}
 use Rattle.words.specs.declared.faults.WordRefusal.{WordRefusal}
-use Rattle.words.specs.declared.faults.WordRefusal.TheVariants.{BadByte, OpenQuote, NameLength}
-use Rattle.words.specs.Words.{Sign, Token, Reading, read, refused, blank_byte, of_name, name_limit, is_blank, is_name, gap, bare, quoted, marked, starting, word_from, word_at}
-use Rattle.words.specs.Texts.{Each, Gap, Ends, Spells, Faulty, Words, Reads, line_feed, sole}
+use Rattle.words.specs.declared.faults.WordRefusal.TheVariants.{OpenQuote, NameLength}
+use Rattle.words.specs.Words.{Sign, Token, Reading, read, refused, blank_byte, of_name, name_limit, is_blank, is_name, gap, bare, quoted, marked, starting, word_from}
+use Rattle.words.specs.Texts.{Each, Gap, Ends, Spells, Faulty, line_feed, sole}
 
 -- Runs of bytes that pass a test.
 module _ (p : ℕ → Bool) where

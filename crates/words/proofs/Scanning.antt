@@ -8,7 +8,7 @@ use Rattle.classes.specs.declared.ByteClass.{ByteClass}
 use Rattle.classes.specs.declared.ByteClass.TheVariants as class
 use Rattle.classes.specs.Classes.{class_of}
 use Rattle.words.specs.declared.faults.WordRefusal.TheVariants.{BadByte}
-use Rattle.words.specs.Words.{gap, blank_byte, of_name, Reading, read, refused, text_end, node, atom, bare, marked, starting, word_from}
+use Rattle.words.specs.Words.{gap, blank_byte, of_name, read, refused, text_end, node, atom, bare, marked, starting, word_from}
 
 module _ (xs : List ℕ) (i : ℕ) where
   pub gap_end_lem : (c : Bool) → length xs ≤ i → gap c (drop i xs) ≡ 0

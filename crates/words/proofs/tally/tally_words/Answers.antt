@@ -1,4 +1,4 @@
-use Rattle.std.proofs.Common.{◌≡◌, ℕ, ◌≤◌, List, length, Err, sym, ap, ◌∙◌, subst, arith}
+use Rattle.std.proofs.Common.{◌≡◌, ℕ, length, Err, sym, ap, ◌∙◌, subst, arith}
 use Rattle.std.proofs.lemmas.Result.{err_from_is_err_and}
 use Rattle.words.specs.Tallies.{none, tallied}
 use Rattle.words.specs.Texts.{words_of}
@@ -11,27 +11,27 @@ loop-word-init c =
     let P : ℕ → Type 0 = λ a. Counting c.new-reader.result.text.now a none in
     (c.new-reader.ensures.0, subst P (sym c.new-reader.ensures.1) (counting_none c.new-reader.result.text.now))
 
-pub returns-in-err-word : goal.returns-in-err-word
-returns-in-err-word c =
-    let p = err_from_is_err_and c.from-residual.result c.from-residual.ensures.1 in
-    let f = counting_faults c.loop-word.reader.text.now c.loop-word.reader.at c.loop-word.tally c.loop-word.invariant.1 c.loop-word.reader.within _ _ c.in-err-word.ensures.value in
+pub returns-in_err-word : goal.returns-in_err-word
+returns-in_err-word c =
+    let p = err_from_is_err_and c.from_residual.result c.from_residual.ensures.1 in
+    let f = counting_faults c.loop-word.reader.text.now c.loop-word.reader.at c.loop-word.tally c.loop-word.invariant.1 c.loop-word.reader.within _ _ c.in_err-word.ensures.value in
     record { counts = p.1 ∙ ap Err p.2 ∙ f ∙ ap (λ x. tallied none (words_of x)) c.loop-word.invariant.0; exact = words_are_exact _ }
 
-pub returns-then-ends-text : goal.returns-then-ends-text
-returns-then-ends-text c = record {
+pub returns-then-ends_text : goal.returns-then-ends_text
+returns-then-ends_text c = record {
   counts =
       counting_ends c.loop-word.reader.text.now c.loop-word.reader.at c.loop-word.tally c.loop-word.invariant.1 c.loop-word.reader.within _ _ _
-      c.in-ok-word.ensures.value c.if-ends-text.ensures ∙ ap (λ x. tallied none (words_of x)) c.loop-word.invariant.0;
+      c.in_ok-word.ensures.value c.if-ends_text.ensures ∙ ap (λ x. tallied none (words_of x)) c.loop-word.invariant.0;
   exact = words_are_exact _;
 }
 
 pub loop-word-smaller : goal.loop-word-smaller
 loop-word-smaller c =
-    let m = counting_more c.loop-word.reader.text.now c.loop-word.reader.at c.loop-word.tally c.loop-word.invariant.1 c.loop-word.reader.within _ _ _ c.in-ok-word.ensures.value c.if-ends-text.ensures in
+    let m = counting_more c.loop-word.reader.text.now c.loop-word.reader.at c.loop-word.tally c.loop-word.invariant.1 c.loop-word.reader.within _ _ _ c.in_ok-word.ensures.value c.if-ends_text.ensures in
     let n = ap length c.loop-word.invariant.0 in omega (arith, m.0, m.1, n)
 
 pub loop-word-preserved : goal.loop-word-preserved
 loop-word-preserved c =
-    let m = counting_more c.loop-word.reader.text.now c.loop-word.reader.at c.loop-word.tally c.loop-word.invariant.1 c.loop-word.reader.within _ _ _ c.in-ok-word.ensures.value c.if-ends-text.ensures in
+    let m = counting_more c.loop-word.reader.text.now c.loop-word.reader.at c.loop-word.tally c.loop-word.invariant.1 c.loop-word.reader.within _ _ _ c.in_ok-word.ensures.value c.if-ends_text.ensures in
     let same : c.next.new.self.text.now ≡ c.loop-word.reader.text.now = ap (λ r. r.now) c.next.ensures.same in
     (same ∙ c.loop-word.invariant.0, rw (same, c.count-tally.ensures) m.2)

@@ -6,8 +6,8 @@ use Rattle.kept.specs.Parts.{blank}
 use Rattle.kept.proofs.Looks.{sentence_at, sentence_past}
 use Rattle.kept.proofs.Kept.is_at.Goals as goal
 
-pub record-is-requires : goal.record-is-requires
-record-is-requires c =
+pub record_is-requires : goal.record_is-requires
+record_is-requires c =
     let s = c.args.self.now in
     let l : c.args.number < length (vec_items s.records) = omega arith in
     let e = get_or_read (vec_items s.records) c.args.number c.index.result.now l c.index.ensures blank in
@@ -18,7 +18,7 @@ pub returns-then-number-len : goal.returns-then-number-len
 returns-then-number-len c =
     let s = c.args.self.now in
     let l : c.args.number < length (vec_items s.records) = omega arith in
-    c.record-is.ensures ∙ ap (λ o. of_pair o c.args.node c.args.left.now) (sym (sentence_at (vec_items s.records) (vec_items s.atoms) (vec_items s.items) c.args.number c.index.result.now l c.index.ensures))
+    c.record_is.ensures ∙ ap (λ o. of_pair o c.args.node c.args.left.now) (sym (sentence_at (vec_items s.records) (vec_items s.atoms) (vec_items s.items) c.args.number c.index.result.now l c.index.ensures))
 
 pub returns-else-number-len : goal.returns-else-number-len
 returns-else-number-len c =

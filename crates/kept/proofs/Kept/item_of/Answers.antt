@@ -7,8 +7,8 @@ use Rattle.kept.specs.Parts.{blank}
 use Rattle.kept.proofs.Looks.{sentence_at, sentence_past}
 use Rattle.kept.proofs.Kept.item_of.Goals as goal
 
-pub nth-in-requires : goal.nth-in-requires
-nth-in-requires c =
+pub nth_in-requires : goal.nth_in-requires
+nth_in-requires c =
     let s = c.args.self.now in
     let l : c.args.number < length (vec_items s.records) = omega arith in
     let e = get_or_read (vec_items s.records) c.args.number c.index.result.now l c.index.ensures blank in
@@ -19,7 +19,7 @@ pub returns-then-number-len : goal.returns-then-number-len
 returns-then-number-len c =
     let s = c.args.self.now in
     let l : c.args.number < length (vec_items s.records) = omega arith in
-    c.nth-in.ensures ∙ ap (λ o. item_at (right_of o) c.args.k) (sym (sentence_at (vec_items s.records) (vec_items s.atoms) (vec_items s.items) c.args.number c.index.result.now l c.index.ensures))
+    c.nth_in.ensures ∙ ap (λ o. item_at (right_of o) c.args.k) (sym (sentence_at (vec_items s.records) (vec_items s.atoms) (vec_items s.items) c.args.number c.index.result.now l c.index.ensures))
 
 pub returns-else-number-len : goal.returns-else-number-len
 returns-else-number-len c =

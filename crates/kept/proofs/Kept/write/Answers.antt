@@ -8,8 +8,8 @@ use Rattle.kept.proofs.Rooms.{within}
 use Rattle.kept.proofs.Adds.{put_leaves}
 use Rattle.kept.proofs.Kept.write.Goals as goal
 
-pub invariant-of-self : goal.invariant-of-self
-invariant-of-self c =
+pub invariant_of-self : goal.invariant_of-self
+invariant_of-self c =
     let s = c.args.self.now in
     let rs = vec_items s.records in
     let bs = vec_items s.atoms in
@@ -17,26 +17,19 @@ invariant-of-self c =
     let l = c.args.left.now in
     let r = c.args.right.now in
     let t = sentence c.args.node l r in
-    let ea : vec_items c.extend-from-slice.new.self ≡ bs ++ l = search rules in
-    let ei : vec_items c.extend-from-slice-2.new.self ≡ is ++ r = search rules in
-    let p = put_leaves rs _ bs _ l is _ r c.args.node c.len-left-at.result c.len-items-at.result c.push-reserved.ensures.items ea ei (omega arith) (omega arith) s.inside in
+    let ea : vec_items c.extend_from_slice.new.self ≡ bs ++ l = search rules in
+    let ei : vec_items c.extend_from_slice-2.new.self ≡ is ++ r = search rules in
+    let p = put_leaves rs _ bs _ l is _ r c.args.node c.len-left_at.result c.len-items_at.result c.push_reserved.ensures.items ea ei (omega arith) (omega arith) s.inside in
     let fa = ap length ea ∙ length-append bs l in
-    let fi = ap length ei ∙ length-append is r in (
-      search rules,
-      (
-        search rules,
-        (
-          search rules,
-          (
-            p.1,
-            (
-              ap atoms_in p.0 ∙ atoms_push (sentences rs bs is) t ∙ omega arith,
-              (ap items_in p.0 ∙ items_push (sentences rs bs is) t ∙ omega arith, tt),
-            ),
-          ),
-        ),
-      ),
-    )
+    let fi = ap length ei ∙ length-append is r in
+    record {
+      records_room = search rules;
+      atoms_room = search rules;
+      items_room = search rules;
+      inside = p.1;
+      atoms_sum = ap atoms_in p.0 ∙ atoms_push (sentences rs bs is) t ∙ omega arith;
+      items_sum = ap items_in p.0 ∙ items_push (sentences rs bs is) t ∙ omega arith;
+    }
 
 pub returns : goal.returns
 returns c =
@@ -46,15 +39,15 @@ returns c =
     let is = vec_items s.items in
     let l = c.args.left.now in
     let r = c.args.right.now in
-    let ea : vec_items c.extend-from-slice.new.self ≡ bs ++ l = search rules in
-    let ei : vec_items c.extend-from-slice-2.new.self ≡ is ++ r = search rules in
+    let ea : vec_items c.extend_from_slice.new.self ≡ bs ++ l = search rules in
+    let ei : vec_items c.extend_from_slice-2.new.self ≡ is ++ r = search rules in
     record {
-      kept = (put_leaves rs _ bs _ l is _ r c.args.node c.len-left-at.result c.len-items-at.result c.push-reserved.ensures.items ea ei (omega arith) (omega arith) s.inside).0;
+      kept = (put_leaves rs _ bs _ l is _ r c.args.node c.len-left_at.result c.len-items_at.result c.push_reserved.ensures.items ea ei (omega arith) (omega arith) s.inside).0;
       room = refl;
     }
 
-pub push-reserved-requires : goal.push-reserved-requires
-push-reserved-requires c =
+pub push_reserved-requires : goal.push_reserved-requires
+push_reserved-requires c =
     let s = c.args.self.now in
     let n = length-map (vec_items s.records) (sentence_of (vec_items s.atoms) (vec_items s.items)) in
     let w = (within s.room (kept_in s) (length c.args.left.now) (length c.args.right.now) c.requires).sentences in

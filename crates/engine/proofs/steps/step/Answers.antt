@@ -10,7 +10,7 @@ found-requires g c =
     let M = (g.S.Store.means c.args.store.now).map in
     let l = (g.S.Store.means c.args.store.now).lawful in
     let m = c.args.machine.now in
-    let e = c.find-left.ensures ∙ ap (λ p. length_found (look_up (M m.asked.node) p)) c.as-slice.ensures in
+    let e = c.find-left.ensures ∙ ap (λ p. length_found (look_up (M m.asked.node) p)) c.as_slice.ensures in
     record { within = left_within M l m c.requires.asks c.find-left.result e }
 
 pub loop-machine-init : goal.loop-machine-init
@@ -39,10 +39,10 @@ returns g c =
     let z = c.found.new.self in
     let last = c.loop-machine.machine in
     let n = c.loop-machine.items in
-    let e = c.find-left.ensures ∙ ap (λ p. length_found (look_up (M m.asked.node) p)) c.as-slice.ensures in
+    let e = c.find-left.ensures ∙ ap (λ p. length_found (look_up (M m.asked.node) p)) c.as_slice.ensures in
     record {
       bounded = omega (arith, c.loop-machine.invariant.1);
-      rests = rests last.phase c.in-default.not-Works;
+      rests = rests last.phase c.in_default.not-Works;
       steps = λ v.
           let i = c.loop-machine.invariant.0 (found_insides M l m c.requires.asks c.find-left.result e z c.found.ensures v) in
           record {

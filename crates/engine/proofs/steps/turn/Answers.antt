@@ -12,11 +12,11 @@ take-requires g c =
     let m = c.args.machine.now in
     record {
       place = wanted_in_range M l m c.requires.works c.wanted-item.result c.wanted-item.ensures;
-      room = room_yes c.wanted-item.result (vec_len m.insides) c.if-has-room.ensures;
+      room = room_yes c.wanted-item.result (vec_len m.insides) c.if-has_room.ensures;
     }
 
-pub returns-then-has-room : goal.returns-then-has-room
-returns-then-has-room g c =
+pub returns-then-has_room : goal.returns-then-has_room
+returns-then-has_room g c =
     let M = (g.S.Store.means c.args.store.now).map in
     let l = (g.S.Store.means c.args.store.now).lawful in
     let m = c.args.machine.now in
@@ -27,8 +27,8 @@ returns-then-has-room g c =
       took = λ v. c.take.ensures ∙ ap (λ x. took x (progress_of m)) e;
     }
 
-pub returns-else-has-room : goal.returns-else-has-room
-returns-else-has-room g c =
+pub returns-else-has_room : goal.returns-else-has_room
+returns-else-has_room g c =
     let M = (g.S.Store.means c.args.store.now).map in
     let l = (g.S.Store.means c.args.store.now).lawful in
     let m = c.args.machine.now in
@@ -36,5 +36,5 @@ returns-else-has-room g c =
     let e = c.wanted-item.ensures in
     record {
       less = end_falls M l m c.requires.works c.overflow.new.self outcomes.Stop.path c.overflow.ensures;
-      took = λ v. absurd (room_no i (vec_len m.insides) c.if-has-room.ensures (wanted_has_room M l m c.requires.works i e v));
+      took = λ v. absurd (room_no i (vec_len m.insides) c.if-has_room.ensures (wanted_has_room M l m c.requires.works i e v));
     }

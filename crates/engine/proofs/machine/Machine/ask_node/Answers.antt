@@ -21,12 +21,12 @@ returns-in-Some c =
     let x = c.in-Some.top.now in
     let q = c.args.quoting in
     let n = c.args.node in
-    let r = c.node-asks-asked.result in
+    let r = c.node_asks-asked.result in
     let some : 0 < vec_len t = grind (arith, nat_tests) in
     let below = positions_of (take (vec_len t - 1) (vec_items t)) in
     let e = positions_last (vec_items t) (vec_len t) t.ok.0 some x c.in-Some.ensures.value in
     let s = positions_set (vec_items t) (vec_len t) t.ok.0 some c.advance.new.top in
     c.pose.ensures
     ∙ (ap (λ l. reached (posed r l (built_in m))) (s ∙ ap (λ p. p ∷ below) c.advance.ensures)
-    ∙ (took_node (position_of x) below (built_in m) q n r c.node-asks-asked.ensures
+    ∙ (took_node (position_of x) below (built_in m) q n r c.node_asks-asked.ensures
     ∙ sym (ap (took (Some (item.Node q n))) (at_work m c.requires.works ∙ ap (λ l. working l (built_in m)) e))))

@@ -13,7 +13,7 @@ returns-then-below-eq0 c =
     let xs = vec_items m.table in
     let n = vec_len m.table in
     let l : least_open m.phase ≡ 1 = ap least_open c.requires.works in
-    let one : length xs ≡ 1 = omega (arith, m.least, m.table.ok.0, c.len_below.ensures, c.if-below-eq0.true) in
+    let one : length xs ≡ 1 = omega (arith, m.least, m.table.ok.0, c.len-below.ensures, c.if-below-eq0.true) in
     let o = below_last xs n m.table.ok.0 (omega arith) in
     let z : n - 1 ≡ 0 = omega arith in
     sym (ap (took None) (at_work m c.requires.works ∙ ap (λ l. working l (built_in m)) (o.1 ∙ ap (λ k. o.0 ∷ positions_of (take k xs)) z))
@@ -28,8 +28,8 @@ returns-else-below-eq0 c =
     let l : least_open m.phase ≡ 1 = ap least_open c.requires.works in
     let some : 0 < n = omega (arith, m.least) in
     let o = below_last xs n m.table.ok.0 some in
-    let i : vec_items k ≡ take (n - 1) xs = c.truncate.ensures.items ∙ ap (λ x. take (x - 1) xs) c.len_below.ensures in
-    let s = some_position (vec_items k) (omega (arith, k.ok.0, c.truncate.ensures.len, c.len_below.ensures, c.if-below-eq0.false)) in
+    let i : vec_items k ≡ take (n - 1) xs = c.truncate.ensures.items ∙ ap (λ x. take (x - 1) xs) c.len-below.ensures in
+    let s = some_position (vec_items k) (omega (arith, k.ok.0, c.truncate.ensures.len, c.len-below.ensures, c.if-below-eq0.false)) in
     ap (λ p. parts p m.asked (vec_items k) (vec_items m.insides) (vec_items m.value)) c.requires.works
     ∙ (sym (closed_some (positions_of (vec_items k)) (built_in m) s)
     ∙ (ap (λ l. closed (positions_of l) (built_in m)) i

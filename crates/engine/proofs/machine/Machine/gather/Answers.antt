@@ -36,8 +36,8 @@ returns-else-push c =
     let e = built_last (vec_items is) (vec_len is) is.ok.0 some v x c.in-Some.ensures.value in
     record { table = refl; phase = refl; gathered = (ap room e ∙ omega arith, sym (ap full e)) }
 
-pub returns-then-len-lt-VALUE-ATOMS : goal.returns-then-len-lt-VALUE-ATOMS
-returns-then-len-lt-VALUE-ATOMS c =
+pub returns-then-len-lt-VALUE_ATOMS : goal.returns-then-len-lt-VALUE_ATOMS
+returns-then-len-lt-VALUE_ATOMS c =
     let is = c.args.self.now.insides in
     let v = vec_items c.args.self.now.value in
     let none : length (vec_items is) ≡ 0 = grind (arith, nat_tests) in
@@ -47,13 +47,13 @@ returns-then-len-lt-VALUE-ATOMS c =
       phase = refl;
       gathered = (
         (value_limit - 1 - length v, ap (λ l. room (built_of l (whole v))) e ∙ omega arith),
-        ap (λ l. built_of l (whole (vec_items c.push-reserved.new.self))) e
-            ∙ (ap whole c.push-reserved.ensures.items ∙ sym (ap (λ l. put (c.args.a ∷ []) (built_of l (whole v))) e)),
+        ap (λ l. built_of l (whole (vec_items c.push_reserved.new.self))) e
+            ∙ (ap whole c.push_reserved.ensures.items ∙ sym (ap (λ l. put (c.args.a ∷ []) (built_of l (whole v))) e)),
       );
     }
 
-pub returns-else-len-lt-VALUE-ATOMS : goal.returns-else-len-lt-VALUE-ATOMS
-returns-else-len-lt-VALUE-ATOMS c =
+pub returns-else-len-lt-VALUE_ATOMS : goal.returns-else-len-lt-VALUE_ATOMS
+returns-else-len-lt-VALUE_ATOMS c =
     let is = c.args.self.now.insides in
     let v = vec_items c.args.self.now.value in
     let none : length (vec_items is) ≡ 0 = grind (arith, nat_tests) in

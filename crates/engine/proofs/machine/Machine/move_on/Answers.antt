@@ -22,8 +22,8 @@ returns-in-Some c =
       phase = refl;
     }
 
-pub returns-in-default : goal.returns-in-default
-returns-in-default c =
+pub returns-in_default : goal.returns-in_default
+returns-in_default c =
     let t = c.args.self.now.table in
     let e : length (vec_items t) ≡ 0 = grind (arith, nat_tests) in
     record { table = ap positions_of (none_long (vec_items t) e) ∙ sym (ap (λ l. top_onward (positions_of l)) (none_long (vec_items t) e)); built = refl; phase = refl }

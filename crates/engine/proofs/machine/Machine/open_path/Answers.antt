@@ -10,13 +10,13 @@ use Rattle.engine.proofs.machine.Machine.open_path.Goals as goal
 pub returns : goal.returns
 returns c =
     let m = c.args.self.now in
-    let z = c.move-on.new.self in
+    let z = c.move_on.new.self in
     let v = whole (vec_items m.value) in
-    at_work z (c.move-on.ensures.phase ∙ c.requires.works)
-    ∙ (ap (λ t. working t (built_in z)) c.move-on.ensures.table
+    at_work z (c.move_on.ensures.phase ∙ c.requires.works)
+    ∙ (ap (λ t. working t (built_in z)) c.move_on.ensures.table
     ∙ (ap (working (top_onward (positions_in m)))
-    (c.move-on.ensures.built
-    ∙ (ap (λ l. built_of l v) c.push-reserved.ensures.items
+    (c.move_on.ensures.built
+    ∙ (ap (λ l. built_of l v) c.push_reserved.ensures.items
     ∙ (built_push (vec_items m.insides) _ v
     ∙ ap (λ u. inside c.args.quoting c.args.node u (built_in m)) c.new.ensures)))
     ∙ (took_open (positions_in m) (some_is_open m c.requires.works) (built_in m) c.args.quoting c.args.node

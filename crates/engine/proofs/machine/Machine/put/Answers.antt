@@ -9,11 +9,11 @@ pub returns-in-None : goal.returns-in-None
 returns-in-None c =
     let m = c.args.self.now in
     let g = c.gather.new.self in
-    let z = c.move-on.new.self in
+    let z = c.move_on.new.self in
     let e = c.gather.ensures.table in
-    at_work z (c.move-on.ensures.phase ∙ (c.gather.ensures.phase ∙ c.requires.works))
-    ∙ (ap (λ t. working t (built_in z)) (c.move-on.ensures.table ∙ ap top_onward e)
-    ∙ (ap (working (top_onward (positions_in m))) c.move-on.ensures.built
+    at_work z (c.move_on.ensures.phase ∙ (c.gather.ensures.phase ∙ c.requires.works))
+    ∙ (ap (λ t. working t (built_in z)) (c.move_on.ensures.table ∙ ap top_onward e)
+    ∙ (ap (working (top_onward (positions_in m))) c.move_on.ensures.built
     ∙ (took_atom (positions_in m) (some_is_open m c.requires.works) (built_in m) (built_in g) c.args.a c.in-None.ensures.gathered
     ∙ sym (ap (took (Some (item.Atom c.args.a))) (at_work m c.requires.works)))))
 

@@ -34,8 +34,8 @@ loop-steps-preserved g c =
           ),
     )
 
-pub returns-in-default : goal.returns-in-default
-returns-in-default g c =
+pub returns-in_default : goal.returns-in_default
+returns-in_default g c =
     let M = (g.S.Store.means c.args.store.now).map in
     let m = c.loop-steps.self in
     let p = state_in M c.args.self.now in
@@ -44,7 +44,7 @@ returns-in-default g c =
       bounded = c.loop-steps.invariant.1;
       went = λ b.
           let i = c.loop-steps.invariant.2 b in
-          let e = ended M m i.0.rests c.in-default.not-Asks in
+          let e = ended M m i.0.rests c.in_default.not-Asks in
           let o = over M c.loop-steps.steps c.args.granted p c.loop-steps.invariant.0 i.2
           (subst (λ x. next M x ≡ x) i.1 e.0) (sym (ap step_of i.1) ∙ e.1) in
           record { between = i.0; state = i.1 ∙ o.same; steps = o.none; asked = i.3 };

@@ -4,4 +4,4 @@ use Rattle.listed.specs.Held.{held_in}
 use Rattle.listed.proofs.Listed.has.Goals as goal
 
 pub returns : goal.returns
-returns c = c.is-some.ensures ∙ ap is_some c.number-of.ensures ∙ sym (some_first (held_in c.args.self.now) c.args.node c.args.left.now)
+returns c = c.is_some.ensures ∙ ap is_some c.number_of.ensures ∙ sym (some_first (held_in c.args.self.now) c.args.node c.args.left.now)

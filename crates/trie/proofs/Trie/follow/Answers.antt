@@ -8,10 +8,10 @@ use Rattle.trie.proofs.Trie.follow.Goals as goal
 pub loop-a-preserved : goal.loop-a-preserved
 loop-a-preserved c =
     let v = c.loop-a.invariant in
-    let m = c.make-child-at.ensures in
+    let m = c.make_child-at.ensures in
     let p = c.args.left.now in (
       λ w. m.same w ∙ v.0 w,
-      λ w e. ap (place_in c.make-child-at.new.self) (push_more w p c.loop-a.a-index c.loop-a-test.true) ∙ m.leads (w ++ map num (take c.loop-a.a-index p)) (v.1 w e),
+      λ w e. ap (place_in c.make_child-at.new.self) (push_more w p c.loop-a.a-index c.loop-a-test.true) ∙ m.leads (w ++ map num (take c.loop-a.a-index p)) (v.1 w e),
       m.low,
       m.within,
       omega arith,

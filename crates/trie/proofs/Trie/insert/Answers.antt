@@ -1,4 +1,4 @@
-use Rattle.std.proofs.Common.{◌≡◌, ℕ, ◌+◌, ◌≤◌, true, false, List, [], ◌∷◌, length, Some, sym, refl, ap, ◌∙◌, arith}
+use Rattle.std.proofs.Common.{◌≡◌, ℕ, ◌+◌, ◌≤◌, List, [], ◌∷◌, length, Some, sym, refl, ap, ◌∙◌, arith}
 use Rattle.std.proofs.lemmas.Bool.{lt-ltb, true≢false}
 use Rattle.trie.specs.Ways.{lookup, word_of}
 use Rattle.trie.specs.Held.{edges_in, marks_in, room_in, place_in}
@@ -12,7 +12,7 @@ returns c =
     let word = word_of c.args.node l in
     let t = c.follow-place.new.self in
     let u = c.mark.new.self in
-    let m = c.make-child-root.ensures in
+    let m = c.make_child-root.ensures in
     let f = c.follow-place.ensures in
     let k = c.mark.ensures in
     let leads : place_in t word ≡ Some c.follow-place.result = f.leads (c.args.node.0 ∷ []) (m.leads [] refl) in

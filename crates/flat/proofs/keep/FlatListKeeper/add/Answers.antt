@@ -3,7 +3,6 @@ use Rattle.stores.specs.Sentences.{sentence}
 use Rattle.stores.specs.Refusals.{Limits, refusal, answer, kept_after}
 use Rattle.listed.specs.Held.{held_in, room_in}
 use Rattle.kept.proofs.Rooms.{smaller_limits}
-use Rattle.flat.specs.Held as own
 use Rattle.flat.proofs.keep.FlatListKeeper.add.Goals as goal
 
 pub returns : goal.returns

@@ -3,11 +3,11 @@ use Rattle.engine.specs.declared.table.Phase.TheVariants as phase
 use Rattle.evaluator.proofs.Came.{right_after, value_in, no_value}
 use Rattle.evaluator.proofs.evaluator.Evaluator.value.Goals as goal
 
-pub returns-in-default-phase : goal.returns-in-default-phase
-returns-in-default-phase g c =
+pub returns-in_default-phase : goal.returns-in_default-phase
+returns-in_default-phase g c =
     let e = c.args.self.now in
     record {
-      shown = no_value e.question e.machine.phase (vec_items e.machine.value) (λ x. c.in-default-phase.not-Has (c.phase.ensures ∙ sym x));
+      shown = no_value e.question e.machine.phase (vec_items e.machine.value) (λ x. c.in_default-phase.not-Has (c.phase.ensures ∙ sym x));
       right = λ means acts a. right_after means acts e a;
     }
 

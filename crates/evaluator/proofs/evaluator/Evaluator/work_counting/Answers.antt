@@ -6,12 +6,12 @@ use Rattle.evaluator.specs.Calls.{works}
 use Rattle.evaluator.proofs.Came.{refused_does, passed_does, idle_yes, idle_no, granted_on, holds_on, between_held}
 use Rattle.evaluator.proofs.evaluator.Evaluator.work_counting.Goals as goal
 
-pub returns-in-default : goal.returns-in-default
-returns-in-default g c =
+pub returns-in_default : goal.returns-in_default
+returns-in_default g c =
     let e = c.args.self.now in
     record {
       does = refused_does g.S.Store.means e (works c.args.number) 14
-          (idle_yes e.question e.machine.phase (vec_items e.machine.value) c.in-default.is);
+          (idle_yes e.question e.machine.phase (vec_items e.machine.value) c.in_default.is);
       bounded = tt;
       requests = tt;
     }
@@ -24,8 +24,8 @@ returns g c =
     let z = c.work-worked.new.self in
     let w = c.work-worked.result in
     let n = c.min-more.result in
-    let m : n ≡ min c.args.number c.saturating-sub.result = c.min-more.ensures in
-    let k : e.granted + n ≡ min (e.granted + c.args.number) step_limit = omega (arith, c.saturating-sub.ensures, e.limited) in
+    let m : n ≡ min c.args.number c.saturating_sub.result = c.min-more.ensures in
+    let k : e.granted + n ≡ min (e.granted + c.args.number) step_limit = omega (arith, c.saturating_sub.ensures, e.limited) in
     let d : w.steps ≡ (e.steps + w.steps) - e.steps = omega arith in
     record {
       does = passed_does g.S.Store.means e _ (works c.args.number)

@@ -1,5 +1,5 @@
 -- There are no more names than there may be.
-use Rattle.std.proofs.Common.{◌≡◌, ℕ, ◌≤◌, List, length, vec_items, vec_len, ◌∙◌, arith}
+use Rattle.std.proofs.Common.{◌≤◌, length, vec_items, arith}
 use lib.ListN.{length-map}
 use Rattle.names.specs.declared.table.NameTable.{NameTable}
 use Rattle.names.specs.declared.tables.Names.{Names}

@@ -1,8 +1,8 @@
 -- What a table of names keeps as it grows and shrinks.
-use Rattle.std.proofs.Common.{◌≡◌, ℕ, zero, suc, ◌+◌, ◌-◌, ◌*◌, ◌<◌, ◌≤◌, Bool, true, false, cond, ◌&&◌, eqb, ltb, leb, List, [], ◌∷◌, ◌++◌, map, length, get_or, take, drop, Some, None, Ok, Err, Decides, Option, sym, refl, ap, ◌∙◌, subst, append_assoc, le_of_suc-le-suc, not-suc-le-zero, add-zero, arith, length-drop}
+use Rattle.std.proofs.Common.{◌≡◌, ℕ, zero, suc, ◌+◌, ◌-◌, ◌*◌, ◌<◌, ◌≤◌, Bool, true, false, cond, eqb, ltb, leb, List, [], ◌∷◌, ◌++◌, length, get_or, take, drop, Some, None, Ok, Err, sym, refl, ap, ◌∙◌, subst, le_of_suc-le-suc, not-suc-le-zero, arith, length-drop}
 use Rattle.std.specs.Str.{bytes_eq}
-use Rattle.std.specs.Cmp.Lexicographic.{Matches}
 use Rattle.std.proofs.lemmas.List.{map-append, take-take, take-append-le, drop-append-le, drop-take, take-map, drop_at, take_all, at_drop_more, at_drop_all}
+use Rattle.std.specs.Cmp.Lexicographic.{pointwise}
 use Rattle.std.proofs.lemmas.Bool.{and_parts, and_from, leb-true, le-leb, lt-leb, lt-ltb, le-ltb, eqb-true, eq-eqb, cond-true, cond-false}
 use Rattle.std.proofs.lemmas.Slice.Eq.{slice_eq-Decides, bytes_eq-Decides}
 use Rattle.std.proofs.lemmas.Bool.Decides.{same_from_decides, Decides-eqb}
@@ -99,7 +99,7 @@ names_push bytes name ps p h s l =
 pub names_take : (bytes : List ℕ) (ps : List Part) (end n : ℕ) (d : Part) → in_order 0 ps end ≡ true → n < length ps → parts_of (take (get_or ps n d).start bytes) (take n ps) ≡ take n (parts_of bytes ps)
 names_take bytes ps end n d h l = names_cut 0 bytes (get_or ps n d).start (take n ps) (ordered_take 0 ps end n d h l) ∙ sym (take-map (part_of bytes) n ps)
 
-pub eq_told : (xs ys : List ℕ) (r : Bool) → Matches (λ (a b : ℕ) (t : Bool). Decides t (a ≡ b)) xs ys r → r ≡ bytes_eq xs ys
+pub eq_told : (xs ys : List ℕ) (r : Bool) → r ≡ pointwise eqb xs ys → r ≡ bytes_eq xs ys
 eq_told xs ys r m = same_from_decides r (bytes_eq xs ys) (slice_eq-Decides Decides-eqb xs ys r m) (bytes_eq-Decides xs ys)
 
 pub ordered_grown : (ps ps' : List Part) (end end' : ℕ) (p : Part) → in_order 0 ps end ≡ true → ps' ≡ ps ++ p ∷ [] → end' ≡ end + p.len → p.start ≡ end → p.len ≤ 32 → in_order 0 ps' end' ≡ true

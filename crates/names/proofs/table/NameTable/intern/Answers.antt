@@ -1,4 +1,4 @@
-use Rattle.std.proofs.Common.{◌≡◌, ℕ, ◌+◌, ◌<◌, ◌≤◌, true, [], ◌∷◌, ◌++◌, length, is_ok, vec_items, vec_len, vec_capacity, sym, refl, ap, ◌∙◌, subst, arith, rules}
+use Rattle.std.proofs.Common.{◌≡◌, ℕ, true, [], ◌∷◌, ◌++◌, length, is_ok, vec_items, vec_len, refl, ap, ◌∙◌, subst, arith, rules}
 use Rattle.std.proofs.lemmas.List.{length-map}
 use Rattle.std.proofs.lemmas.Bool.{cond-true}
 use Rattle.names.specs.Parts.{parts_of, in_order}
@@ -8,8 +8,8 @@ use Rattle.chains.specs.Held.{buckets_in, width_in, room_in}
 use Rattle.names.proofs.Apart.{table_push}
 use Rattle.names.proofs.table.NameTable.intern.Goals as goal
 
-pub returns-then-name-gt-NAME-BYTES : goal.returns-then-name-gt-NAME-BYTES
-returns-then-name-gt-NAME-BYTES c =
+pub returns-then-name-gt-NAME_BYTES : goal.returns-then-name-gt-NAME_BYTES
+returns-then-name-gt-NAME_BYTES c =
     let r = refused_names _ _ _ (too_long c.args.self.now.limit (names_in c.args.self.now) c.args.name.now (omega arith)) in
     record { gives = r.0; names = r.1; limit = refl }
 
@@ -24,30 +24,37 @@ returns-then-n-self c =
     let r = refused_names _ _ _ (no_more c.args.self.now.limit (names_in c.args.self.now) c.args.name.now (omega arith) (omega (arith, c.number-n.ensures))) in
     record { gives = r.0; names = r.1; limit = refl }
 
-pub invariant-of-self : goal.invariant-of-self
-invariant-of-self c =
+pub invariant_of-self : goal.invariant_of-self
+invariant_of-self c =
     let t = c.args.self.now in
     let s = (span 0 (vec_items t.parts) (vec_len t.bytes) t.ordered).1 in
-    let ok : is_ok c.extend-from-slice.result ≡ true = c.extend-from-slice.ensures.succeeds (omega (arith, s, t.parts.ok.0)) in
+    let ok : is_ok c.extend_from_slice.result ≡ true = c.extend_from_slice.ensures.succeeds (omega (arith, s, t.parts.ok.0)) in
     let l : length (names_in t) ≡ vec_len t.parts = search (rules, length-map) in
     let P : ℕ → Type 0 = λ n. in_order 0 (vec_items t.parts) n ≡ true in
     let ordered : in_order 0 (vec_items t.parts) (length (vec_items t.bytes)) ≡ true = subst P t.bytes.ok.0 t.ordered in
     let start : c.len-start.result ≡ length (vec_items t.bytes) = c.len-start.ensures ∙ t.bytes.ok.0 in
-    let grown : parts_of (vec_items c.extend-from-slice.new.self) (vec_items c.push-reserved.new.self) ≡ names_in t ++ c.args.name.now ∷ [] =
-    ap (λ b. parts_of b (vec_items c.push-reserved.new.self)) (c.extend-from-slice.ensures.items ∙ cond-true _ _ _ ok)
-    ∙ ap (parts_of (vec_items t.bytes ++ c.args.name.now)) c.push-reserved.ensures.items
+    let grown : parts_of (vec_items c.extend_from_slice.new.self) (vec_items c.push_reserved.new.self) ≡ names_in t ++ c.args.name.now ∷ [] =
+    ap (λ b. parts_of b (vec_items c.push_reserved.new.self)) (c.extend_from_slice.ensures.items ∙ cond-true _ _ _ ok)
+    ∙ ap (parts_of (vec_items t.bytes ++ c.args.name.now)) c.push_reserved.ensures.items
     ∙ names_push (vec_items t.bytes) c.args.name.now (vec_items t.parts) _ ordered start refl in
     let n = c.number-n.ensures in
     let wide = t.wide in
-    let p = table_push (names_in t) _ (buckets_in t.chains) (buckets_in c.push.new.self) c.args.name.now c.bucket_of_lem.result (width_in t.chains) (room_in t.chains) c.push.result t.chained grown c.bucket_of_lem.ensures.is c.push.ensures.gives (omega (arith, c.bucket_of_lem.ensures.small)) (omega arith) c.push.ensures.entries t.apart (omega arith) in (
-      ordered_grown _ _ _ _ _ t.ordered c.push-reserved.ensures.items (c.extend-from-slice.ensures.len ∙ cond-true _ _ _ ok) c.len-start.ensures (omega arith),
-      (search rules, (search rules, (search rules, (search rules, (omega (arith, c.push.ensures.room), (c.push.ensures.width ∙ wide, (p.0, (p.1, tt)))))))),
-    )
+    let p = table_push (names_in t) _ (buckets_in t.chains) (buckets_in c.push.new.self) c.args.name.now c.bucket_of.result (width_in t.chains) (room_in t.chains) c.push.result t.chained grown c.bucket_of.ensures.is c.push.ensures.gives (omega (arith, c.bucket_of.ensures.small)) (omega arith) c.push.ensures.entries t.apart (omega arith) in record {
+      ordered = ordered_grown _ _ _ _ _ t.ordered c.push_reserved.ensures.items (c.extend_from_slice.ensures.len ∙ cond-true _ _ _ ok) c.len-start.ensures (omega arith);
+      few = search rules;
+      small = search rules;
+      parts_room = search rules;
+      bytes_room = search rules;
+      chains_room = omega (arith, c.push.ensures.room);
+      wide = c.push.ensures.width ∙ wide;
+      chained = p.0;
+      apart = p.1;
+    }
 
 pub returns : goal.returns
 returns c =
     let s = (span 0 (vec_items c.args.self.now.parts) (vec_len c.args.self.now.bytes) c.args.self.now.ordered).1 in
-    let ok : is_ok c.extend-from-slice.result ≡ true = c.extend-from-slice.ensures.succeeds (omega (arith, s, c.args.self.now.parts.ok.0)) in
+    let ok : is_ok c.extend_from_slice.result ≡ true = c.extend_from_slice.ensures.succeeds (omega (arith, s, c.args.self.now.parts.ok.0)) in
     let l : length (names_in c.args.self.now) ≡ vec_len c.args.self.now.parts = search (rules, length-map) in
     let P : ℕ → Type 0 = λ n. in_order 0 (vec_items c.args.self.now.parts) n ≡ true in
     let ordered : in_order 0 (vec_items c.args.self.now.parts) (length (vec_items c.args.self.now.bytes)) ≡ true =
@@ -57,8 +64,8 @@ returns c =
     record {
       gives = r.0;
       names =
-          ap (λ b. parts_of b (vec_items c.push-reserved.new.self)) (c.extend-from-slice.ensures.items ∙ cond-true _ _ _ ok)
-          ∙ ap (parts_of (vec_items c.args.self.now.bytes ++ c.args.name.now)) c.push-reserved.ensures.items
+          ap (λ b. parts_of b (vec_items c.push_reserved.new.self)) (c.extend_from_slice.ensures.items ∙ cond-true _ _ _ ok)
+          ∙ ap (parts_of (vec_items c.args.self.now.bytes ++ c.args.name.now)) c.push_reserved.ensures.items
           ∙ names_push (vec_items c.args.self.now.bytes) c.args.name.now (vec_items c.args.self.now.parts) _ ordered start refl ∙ r.1;
       limit = refl;
     }

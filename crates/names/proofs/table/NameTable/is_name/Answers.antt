@@ -12,7 +12,7 @@ part-requires c = search (rules, length-map)
 pub returns-then-k-len : goal.returns-then-k-len
 returns-then-k-len c =
     let h : c.args.k < length (names_in c.args.self.now) = search (rules, length-map) in
-    eq_told _ _ _ c.eq.ensures ∙ ap (λ x. bytes_eq x c.args.name.now) c.part.ensures ∙ sym (at_is _ _ _ h)
+    eq_told c.part.result.now c.args.name.now _ c.eq.ensures ∙ ap (λ x. bytes_eq x c.args.name.now) c.part.ensures ∙ sym (at_is _ _ _ h)
 
 pub returns-else-k-len : goal.returns-else-k-len
 returns-else-k-len c = let h : length (names_in c.args.self.now) ≤ c.args.k = search (rules, length-map) in sym (at_none _ _ _ h)

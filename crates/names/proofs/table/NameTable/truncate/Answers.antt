@@ -1,4 +1,4 @@
-use Rattle.std.proofs.Common.{◌≡◌, ℕ, ◌<◌, length, take, vec_items, vec_len, sym, refl, ap, ◌∙◌, subst, arith, rules}
+use Rattle.std.proofs.Common.{◌≡◌, ℕ, ◌<◌, length, take, vec_items, vec_len, ap, ◌∙◌, arith, rules}
 use Rattle.std.proofs.lemmas.List.{length-map, take_all}
 use Rattle.chains.specs.Held.{buckets_in}
 use Rattle.names.specs.declared.part.Part.{Part}
@@ -8,8 +8,8 @@ use Rattle.names.proofs.Laws.{ordered_take, names_take, part_within}
 use Rattle.names.proofs.Apart.{table_take}
 use Rattle.names.proofs.table.NameTable.truncate.Goals as goal
 
-pub invariant-of-self : goal.invariant-of-self
-invariant-of-self c =
+pub invariant_of-self : goal.invariant_of-self
+invariant_of-self c =
     let t = c.args.self.now in
     let l : c.args.n < length (vec_items t.parts) = omega (arith, c.len.ensures, t.parts.ok.0) in
     let cut : parts_of (vec_items c.truncate.new.self) (vec_items c.truncate-then-n-len.new.self) ≡ take c.args.n (names_in t) =
@@ -18,10 +18,17 @@ invariant-of-self c =
     ∙ ap (λ (k : ℕ). parts_of (take k (vec_items t.bytes)) (take c.args.n (vec_items t.parts))) (ap (λ (q : Part). q.start) c.index.ensures)
     ∙ names_take (vec_items t.bytes) (vec_items t.parts) (vec_len t.bytes) c.args.n c.index.result.now t.ordered l in
     let p = table_take (names_in t) _ (buckets_in t.chains) (buckets_in c.truncate-then-n-len-2.new.self) c.args.n t.chained cut c.truncate-then-n-len-2.ensures.entries t.apart in
-    let wide = t.wide in (
-      search (rules, ordered_take, part_within),
-      (search rules, (search rules, (search rules, (search rules, (omega (arith, c.truncate-then-n-len-2.ensures.room), (c.truncate-then-n-len-2.ensures.width ∙ wide, (p.0, (p.1, tt)))))))),
-    )
+    let wide = t.wide in record {
+      ordered = search (rules, ordered_take, part_within);
+      few = search rules;
+      small = search rules;
+      parts_room = search rules;
+      bytes_room = search rules;
+      chains_room = omega (arith, c.truncate-then-n-len-2.ensures.room);
+      wide = c.truncate-then-n-len-2.ensures.width ∙ wide;
+      chained = p.0;
+      apart = p.1;
+    }
 
 pub returns-then-n-len : goal.returns-then-n-len
 returns-then-n-len c = search (rules, names_take)

@@ -12,13 +12,13 @@ pub returns : goal.returns
 returns g c =
     let M = (g.S.Store.means c.args.store.now).map in
     let n = c.args.asked.node in
-    let q = c.as-slice-path.result.now in
+    let q = c.as_slice-path.result.now in
     let z = c.evaluate-evaluator.result in
     let told = c.evaluate-evaluator.ensures in
     let same : holding_of z ≡ held M (calls n q) = told.came.held ∙ ap (λ s. held (g.S.Store.means s.now).map (calls n q)) told.over in
-    let l = line_shown M n (atoms_of c.args.asked.path) q c.as-slice-path.ensures c.requires (holding_of z) same (shown_by z) z.steps told.right (nodes_in c.args.names.now) (atoms_in c.args.names.now) in
+    let l = line_shown M n (atoms_of c.args.asked.path) q c.as_slice-path.ensures c.requires (holding_of z) same (shown_by z) z.steps told.right (nodes_in c.args.names.now) (atoms_in c.args.names.now) in
     record {
-      end = c.write-answer-end.ensures.end ∙ ap (λ (x : Line). filled x c.args.page.now c.args.fill) l;
-      page = c.write-answer-end.ensures.page ∙ ap (λ (x : Line). page_after x c.args.page.now c.args.fill) l;
-      right = question_told M n (atoms_of c.args.asked.path) q c.as-slice-path.ensures c.requires (holding_of z) same (shown_by z) z.steps told.right;
+      end = c.write_answer-end.ensures.end ∙ ap (λ (x : Line). filled x c.args.page.now c.args.fill) l;
+      page = c.write_answer-end.ensures.page ∙ ap (λ (x : Line). page_after x c.args.page.now c.args.fill) l;
+      right = question_told M n (atoms_of c.args.asked.path) q c.as_slice-path.ensures c.requires (holding_of z) same (shown_by z) z.steps told.right;
     }

@@ -17,4 +17,4 @@ returns c =
     (c.node_name.ensures ∙ ap (λ (n : Node). name_or_none nodes n.0) c.node.ensures))
     (then (omega arith) c.put-at.auto.page c.put-at.ensures
     (then (omega arith) c.put-at-2.auto.page c.put-at-2.ensures
-    (then (omega arith) c.put-path-at.auto.page c.put-path-at.ensures c.put.ensures)))
+    (then (omega arith) c.put_path-at.auto.page c.put_path-at.ensures c.put.ensures)))

@@ -7,5 +7,5 @@ use Rattle.lines.proofs.parts.put_said.Goals as goal
 
 pub returns : goal.returns
 returns c =
-    spells (ap (λ w. w ++ value_bytes (names_of (atoms_in c.args.names.now) c.args.value.now)) c.outcome-word.ensures)
-    (then (omega arith) c.put-at.auto.page c.put-at.ensures c.put-value.ensures)
+    spells (ap (λ w. w ++ value_bytes (names_of (atoms_in c.args.names.now) c.args.value.now)) c.outcome_word.ensures)
+    (then (omega arith) c.put-at.auto.page c.put-at.ensures c.put_value.ensures)

@@ -9,4 +9,4 @@ returns-then-n-lt10 t c = spells (sym (decimal_digit c.args.n c.if-n-lt10.true))
 pub returns : goal.returns
 returns t c =
     spells (sym (decimal_step c.args.n c.if-n-lt10.false (omega arith)))
-    (then (omega arith) c.put-number-at.auto.page c.put-number-at.ensures c.put-2.ensures)
+    (then (omega arith) c.put_number-at.auto.page c.put_number-at.ensures c.put-2.ensures)

@@ -6,4 +6,4 @@ use Rattle.lines.proofs.spelling.put_blank_and_atom.Goals as goal
 pub returns : goal.returns
 returns c =
     spells (ap (λ x. 32 ∷ atom_bytes x) c.atom_name.ensures)
-    (then (omega arith) c.put-at.auto.page c.put-at.ensures c.put-atom.ensures)
+    (then (omega arith) c.put-at.auto.page c.put-at.ensures c.put_atom.ensures)

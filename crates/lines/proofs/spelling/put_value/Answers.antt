@@ -10,7 +10,7 @@ loop-a-init c = none c.args.page.now c.args.at (omega arith)
 pub loop-a-preserved : goal.loop-a-preserved
 loop-a-preserved c =
     spells (value_more (atoms_in c.args.names.now) c.args.atoms.now c.loop-a.a-index (record { 0 = 0 }) c.loop-a-test.true)
-    (then (omega arith) c.loop-a.auto.page c.loop-a.invariant c.put-blank-and-atom-at.ensures)
+    (then (omega arith) c.loop-a.auto.page c.loop-a.invariant c.put_blank_and_atom-at.ensures)
 
 pub returns : goal.returns
 returns c = spells (value_all (atoms_in c.args.names.now) c.args.atoms.now c.loop-a.a-index c.loop-a-test.false) c.loop-a.invariant

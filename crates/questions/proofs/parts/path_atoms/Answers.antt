@@ -31,9 +31,9 @@ loop-next-preserved c =
     Turns.at_atom _ _ _ _ _ _ c.loop-next.invariant _ _ _ _ _ c.in-ok-next.ensures.words c.in-Atom.is _ _ _ _
     c.in-ok-atom.ensures.gives c.in-ok-atom.ensures.names c.push-fits.ensures.room c.push-fits.ensures.atoms
 
-pub returns-then-not-is-greater : goal.returns-then-not-is-greater
-returns-then-not-is-greater c = record {
-  reads = Turns.at_other _ _ _ _ _ _ c.loop-next.invariant _ _ _ _ c.in-ok-next.ensures.words c.in-default.not-Atom c.if-not-is-greater.ensures;
+pub returns-then-not-is_greater : goal.returns-then-not-is_greater
+returns-then-not-is_greater c = record {
+  reads = Turns.at_other _ _ _ _ _ _ c.loop-next.invariant _ _ _ _ c.in-ok-next.ensures.words c.in-default.not-Atom c.if-not-is_greater.ensures;
   grows = c.loop-next.invariant.grows;
 }
 
@@ -43,7 +43,7 @@ returns-then-fits c = record {
     c.loop-next.invariant.atoms,
     (
       Turns.all_held _ _ _ _ _ _ c.loop-next.invariant c.if-fits.true,
-      Turns.at_greater _ _ _ _ _ _ c.loop-next.invariant _ _ _ _ c.in-ok-next.ensures.words c.if-not-is-greater.ensures,
+      Turns.at_greater _ _ _ _ _ _ c.loop-next.invariant _ _ _ _ c.in-ok-next.ensures.words c.if-not-is_greater.ensures,
     ),
   );
   grows = c.loop-next.invariant.grows;
@@ -55,7 +55,7 @@ returns-else-fits c = record {
     c.loop-next.invariant.atoms,
     (
       Turns.not_held _ _ _ _ _ _ c.loop-next.invariant c.if-fits.false,
-      Turns.at_greater _ _ _ _ _ _ c.loop-next.invariant _ _ _ _ c.in-ok-next.ensures.words c.if-not-is-greater.ensures,
+      Turns.at_greater _ _ _ _ _ _ c.loop-next.invariant _ _ _ _ c.in-ok-next.ensures.words c.if-not-is_greater.ensures,
     ),
   );
   grows = c.loop-next.invariant.grows;

@@ -10,7 +10,7 @@ returns-in-err-path c =
     let p = err_from_is_err_and c.from-residual-in-err-path.result c.from-residual-in-err-path.ensures.1 in
     let w = Whole.at_start c.args.line.now c.new-reader.result c.new-reader.ensures.0 c.new-reader.ensures.1 in record {
       reads = rw (p.1, p.2)
-          (Whole.from_node (names_of c.args.names.now) _ (names_of c.path-to-end.new.names) _ _ _ _ _ _ _ w c.in-ok-first.ensures.words c.in-Node.is _ c.in-ok-node.ensures.gives
+          (Whole.from_node (names_of c.args.names.now) _ (names_of c.path_to_end.new.names) _ _ _ _ _ _ _ w c.in-ok-first.ensures.words c.in-Node.is _ c.in-ok-node.ensures.gives
           c.in-ok-node.ensures.names (Err c.in-err-path.field-0.0) c.in-err-path.ensures.reads);
       unnamed = rw p.1 tt;
       grows = Growth.on _ _ _ (Growth.by_node _ _ _ c.in-ok-node.ensures.names) c.in-err-path.ensures.grows;

@@ -9,5 +9,5 @@ returns c =
     let z = v.ok.0 in
     let t = length-take (c.min-n.result - 0) c.args.part.now in
     let n : c.min-n.result - 0 ≡ min (length c.args.part.now) (1025 - length (vec_items v)) = omega arith in
-    extended (vec_items v) c.args.part.now (vec_items c.extend-from-slice.new.self) (c.min-n.result - 0) (omega arith) n
-    (c.extend-from-slice.ensures.items ∙ cond-true _ _ _ (c.extend-from-slice.ensures.succeeds (omega arith)))
+    extended (vec_items v) c.args.part.now (vec_items c.extend_from_slice.new.self) (c.min-n.result - 0) (omega arith) n
+    (c.extend_from_slice.ensures.items ∙ cond-true _ _ _ (c.extend_from_slice.ensures.succeeds (omega arith)))

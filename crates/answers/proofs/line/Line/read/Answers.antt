@@ -11,12 +11,12 @@ returns-then-from-block c =
 
 pub returns-then-end-block : goal.returns-then-end-block
 returns-then-end-block c = record {
-  bytes = c.extend.ensures ∙ ap (λ (l : List ℕ). take kept_bytes (vec_items c.args.self.now.bytes ++ l)) (part_to_feed c.args.block.now c.args.from c.feed-at-end.result c.feed-at-end.ensures.value);
-  behind = block_ends c.args.block.now c.args.from (omega arith) c.feed-at-end.result c.feed-at-end.ensures.value (omega arith);
+  bytes = c.extend.ensures ∙ ap (λ (l : List ℕ). take kept_bytes (vec_items c.args.self.now.bytes ++ l)) (part_to_feed c.args.block.now c.args.from c.feed_at-end.result c.feed_at-end.ensures.value);
+  behind = block_ends c.args.block.now c.args.from (omega arith) c.feed_at-end.result c.feed_at-end.ensures.value (omega arith);
 }
 
 pub returns : goal.returns
 returns c = record {
-  bytes = c.extend.ensures ∙ ap (λ (l : List ℕ). take kept_bytes (vec_items c.args.self.now.bytes ++ l)) (part_to_feed c.args.block.now c.args.from c.feed-at-end.result c.feed-at-end.ensures.value);
-  behind = block_goes_on c.args.block.now c.args.from (omega arith) c.feed-at-end.result c.feed-at-end.ensures.value (omega arith);
+  bytes = c.extend.ensures ∙ ap (λ (l : List ℕ). take kept_bytes (vec_items c.args.self.now.bytes ++ l)) (part_to_feed c.args.block.now c.args.from c.feed_at-end.result c.feed_at-end.ensures.value);
+  behind = block_goes_on c.args.block.now c.args.from (omega arith) c.feed_at-end.result c.feed_at-end.ensures.value (omega arith);
 }

@@ -13,7 +13,7 @@ returns-in-Err g c =
     record { gives = p.0; keeps = p.1; takes = o.0; means = o.1 }
 
 pub loop-s-preserved : goal.loop-s-preserved
-loop-s-preserved g c = fill_more g.K.Keeper.limits c.args.sentences.now _ _ c.loop-s.s-index c.loop-s-test.true c.loop-s.invariant c.in-default.field-0 c.in-default.ensures.gives c.in-default.ensures.keeps
+loop-s-preserved g c = fill_more g.K.Keeper.limits c.args.sentences.now _ _ c.loop-s.s-index c.loop-s-test.true c.loop-s.invariant c.in_default.field-0 c.in_default.ensures.gives c.in_default.ensures.keeps
 
 pub returns : goal.returns
 returns g c =

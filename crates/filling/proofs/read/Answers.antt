@@ -3,14 +3,14 @@ use Rattle.stores.specs.Items.{items_of}
 use Rattle.filling.proofs.RightSides.{item_within, read_more, read_all}
 use Rattle.filling.proofs.read.Goals as goal
 
-pub offset-bounds-into-n : goal.offset-bounds-into-n
-offset-bounds-into-n g c = let w = (item_within (g.S.Store.means c.args.store.now) c.args.node c.args.left.now c.loop-item.n c.in-Some.item c.in-Some.ensures).1 in omega arith
+pub offset_bounds-into-n : goal.offset_bounds-into-n
+offset_bounds-into-n g c = let w = (item_within (g.S.Store.means c.args.store.now) c.args.node c.args.left.now c.loop-item.n c.in-Some.item c.in-Some.ensures).1 in omega arith
 
 pub bounds-into-n : goal.bounds-into-n
 bounds-into-n g c = (item_within (g.S.Store.means c.args.store.now) c.args.node c.args.left.now c.loop-item.n c.in-Some.item c.in-Some.ensures).1
 
-pub overflow-add-n : goal.overflow-add-n
-overflow-add-n g c = let w = (item_within (g.S.Store.means c.args.store.now) c.args.node c.args.left.now c.loop-item.n c.in-Some.item c.in-Some.ensures).1 in omega arith
+pub overflow_add-n : goal.overflow_add-n
+overflow_add-n g c = let w = (item_within (g.S.Store.means c.args.store.now) c.args.node c.args.left.now c.loop-item.n c.in-Some.item c.in-Some.ensures).1 in omega arith
 
 pub loop-item-smaller : goal.loop-item-smaller
 loop-item-smaller g c = let w = (item_within (g.S.Store.means c.args.store.now) c.args.node c.args.left.now c.loop-item.n c.in-Some.item c.in-Some.ensures).0 in omega arith
@@ -33,5 +33,5 @@ pub returns : goal.returns
 returns g c =
     let m = g.S.Store.means c.args.store.now in
     let v = c.loop-item.invariant in
-    let p = read_all (items_of (m.map c.args.node c.args.left.now)) c.loop-item.into c.loop-item.n c.in-default.ensures v.1 v.0 in
+    let p = read_all (items_of (m.map c.args.node c.args.left.now)) c.loop-item.into c.loop-item.n c.in_default.ensures v.1 v.0 in
     record { len = p.0; items = p.1 }

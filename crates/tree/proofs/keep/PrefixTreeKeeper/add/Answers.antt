@@ -11,7 +11,7 @@ returns-then-put c =
     let s = c.args.self.now in
     let t = sentence c.args.node c.args.left.now c.args.right.now in
     let e = smaller_limits 2048 8192 32768 c.most.result s.kept.room c.most.ensures s.sentences_room s.atoms_room s.items_room in
-    let p = added limits_of (kept_in s) t (sym c.in-default.ensures) true (kept_in c.put.new.self) (sym c.if-has.ensures) (c.if-put.ensures.gives ∙ ap (λ (k : Limits). not (over k (kept_in s) t)) e) c.if-put.ensures.kept in
+    let p = added limits_of (kept_in s) t (sym c.in_default.ensures) true (kept_in c.put.new.self) (sym c.if-has.ensures) (c.if-put.ensures.gives ∙ ap (λ (k : Limits). not (over k (kept_in s) t)) e) c.if-put.ensures.kept in
     record { gives = p.0; keeps = p.1 }
 
 pub returns-else-put : goal.returns-else-put
@@ -19,5 +19,5 @@ returns-else-put c =
     let s = c.args.self.now in
     let t = sentence c.args.node c.args.left.now c.args.right.now in
     let e = smaller_limits 2048 8192 32768 c.most.result s.kept.room c.most.ensures s.sentences_room s.atoms_room s.items_room in
-    let p = added limits_of (kept_in s) t (sym c.in-default.ensures) false (kept_in c.put.new.self) (sym c.if-has.ensures) (c.if-put.ensures.gives ∙ ap (λ (k : Limits). not (over k (kept_in s) t)) e) c.if-put.ensures.kept in
+    let p = added limits_of (kept_in s) t (sym c.in_default.ensures) false (kept_in c.put.new.self) (sym c.if-has.ensures) (c.if-put.ensures.gives ∙ ap (λ (k : Limits). not (over k (kept_in s) t)) e) c.if-put.ensures.kept in
     record { gives = p.0; keeps = p.1 }

@@ -13,4 +13,4 @@ returns-in-None c =
 pub returns-in-Some : goal.returns-in-Some
 returns-in-Some c =
     let s = c.args.self.now in
-    c.item-of.ensures ∙ item_by (kept_in s) s.fit c.args.node c.args.left.now (Some c.in-Some.number) c.args.k (c.in-Some.ensures ∙ mark_first (mark_in s.trie) (kept_in s) s.tied c.args.node c.args.left.now)
+    c.item_of.ensures ∙ item_by (kept_in s) s.fit c.args.node c.args.left.now (Some c.in-Some.number) c.args.k (c.in-Some.ensures ∙ mark_first (mark_in s.trie) (kept_in s) s.tied c.args.node c.args.left.now)

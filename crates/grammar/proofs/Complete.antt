@@ -1,14 +1,11 @@
 -- Every tree's words are accepted.
-use Rattle.std.proofs.Common.{◌≡◌, ℕ, Bool, true, false, cond, List, [], ◌∷◌, ◌++◌, Some, None, Option, sym, refl, ap, ◌∙◌, subst, append_assoc, append-nil, arith}
+use Rattle.std.proofs.Common.{◌≡◌, ℕ, Bool, true, false, List, [], ◌∷◌, ◌++◌, Some, None, Option, sym, refl, ap, ◌∙◌, subst, append_assoc, append-nil, arith}
 use Rattle.terms.specs.declared.items.Node.{Node}
 use Rattle.terms.specs.declared.items.Atom.{Atom}
 use Rattle.terms.specs.declared.items.Quoting.{Quoting}
 use Rattle.terms.specs.declared.items.Quoting.TheVariants.{Plain as plain, Quoted as quoted}
-use Rattle.terms.specs.declared.items.Item.{Item}
-use Rattle.terms.specs.Terms.{Terms, done, atom, node, path, flat, nesting}
-use Rattle.stores.specs.Sentences.{Sentence}
-use Rattle.stores.specs.Refusals.{Limits, refusal}
-use Rattle.grammar.specs.Trees.{Word, AtomName, NodeName, Less, Greater, Quote, Colon, Is, Stop, Open, Close, Stray, Equation, Block, words, opens, closes, node_words, atom_words, side_words, equation_words, equations_words, block_words, theory_words}
+use Rattle.terms.specs.Terms.{Terms, done, atom, node, path}
+use Rattle.grammar.specs.Trees.{Word, AtomName, NodeName, Less, Greater, Quote, Colon, Is, Stop, Open, Close, Stray, Equation, Block, words, opens, closes, atom_words, side_words, equation_words, equations_words, block_words, theory_words}
 use Rattle.grammar.specs.Parsing
 use Rattle.grammar.specs.Parsing.{Stream, word, over, broken, parse, Head, Front, Frames, outside, within, side, ready, then, between, begun, body, lefting, lefted, State}
 use Rattle.grammar.specs.Theorems.{contents, intact, Spells, Reads}

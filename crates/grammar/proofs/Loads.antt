@@ -1,24 +1,18 @@
 -- What is loaded are the trees within the limits.
-use Rattle.std.proofs.Common.{◌≡◌, ℕ, zero, suc, ◌+◌, ◌≤◌, max, Bool, true, false, cond, ltb, List, [], ◌∷◌, ◌++◌, length, is_some, Some, None, Option, sym, refl, ap, ◌∙◌, subst, append_assoc, append-nil, arith}
+use Rattle.std.proofs.Common.{◌≡◌, ℕ, ◌≤◌, Bool, true, false, cond, ltb, List, [], ◌∷◌, ◌++◌, length, is_some, Some, None, Option, sym, refl, ap, ◌∙◌, subst, append_assoc, append-nil, arith}
 use Rattle.std.proofs.lemmas.Bool.{ltb-false, le-ltb}
-use Rattle.terms.specs.declared.items.Node.{Node}
-use Rattle.terms.specs.declared.items.Atom.{Atom}
-use Rattle.terms.specs.declared.items.Quoting.{Quoting}
-use Rattle.terms.specs.declared.items.Quoting.TheVariants.{Plain as plain, Quoted as quoted}
-use Rattle.terms.specs.declared.items.Item.{Item}
-use Rattle.terms.specs.Terms.{Terms, done, atom, node, path, flat, nesting}
 use Rattle.stores.specs.Sentences.{Sentence, map_of}
 use Rattle.terms.specs.Limits.{path_limit, item_limit}
 use Rattle.stores.specs.declared.refusals.Refusal.{Refusal}
 use Rattle.stores.specs.declared.refusals.Refusal.TheVariants as refusals
 use Rattle.stores.specs.Refusals.{Limits, number}
 use Rattle.stores.specs.Refusals as stores
-use Rattle.grammar.specs.Trees.{Word, Block, sentences, theory_nesting, theory_words}
+use Rattle.grammar.specs.Trees.{Word, Block, sentences, theory_nesting}
 use Rattle.grammar.specs.Parsing
 use Rattle.grammar.specs.Parsing.{Stream, word, over, broken, State, Step, go, ends, bad, depth, so_far, between, Outcome, accepted, refused, parse, follow, finish}
-use Rattle.grammar.specs.Loading.{load, late_refusal, checked, within_limits, kept_or, numbered}
-use Rattle.grammar.specs.Theorems.{contents, Spells, Named, Taken, Fits}
-use Rattle.grammar.proofs.Steps.{deep, Deeper, Well, well}
+use Rattle.grammar.specs.Loading.{load, late_refusal, checked, kept_or, numbered}
+use Rattle.grammar.specs.Theorems.{contents, Named, Taken, Fits}
+use Rattle.grammar.proofs.Steps.{deep, Well, well}
 use Rattle.grammar.proofs.Sound.{sound, never}
 use Rattle.grammar.proofs.Complete.{complete}
 

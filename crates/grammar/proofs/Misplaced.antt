@@ -1,18 +1,12 @@
 -- Refusal 4 stands at the first word that no text has there.
-use Rattle.std.proofs.Common.{◌≡◌, ℕ, suc, ◌≤◌, Bool, true, false, cond, List, [], ◌∷◌, ◌++◌, Some, None, Option, sym, refl, ap, ◌∙◌, subst, append_assoc, append-nil, arith}
-use Rattle.terms.specs.declared.items.Node.{Node}
-use Rattle.terms.specs.declared.items.Atom.{Atom}
-use Rattle.terms.specs.declared.items.Quoting.{Quoting}
+use Rattle.std.proofs.Common.{◌≡◌, ℕ, Bool, true, false, List, [], ◌∷◌, ◌++◌, Some, None, sym, refl, ap, ◌∙◌, subst, append_assoc, append-nil, arith}
 use Rattle.terms.specs.declared.items.Quoting.TheVariants.{Plain as plain, Quoted as quoted}
-use Rattle.terms.specs.declared.items.Item.{Item}
-use Rattle.terms.specs.Terms.{Terms, done, atom, node, path, flat, nesting}
-use Rattle.stores.specs.Sentences.{Sentence}
-use Rattle.stores.specs.Refusals.{Limits, refusal}
-use Rattle.grammar.specs.Trees.{Word, AtomName, NodeName, Less, Greater, Quote, Colon, Is, Stop, Open, Close, Stray, Equation, Block, words, opens, closes, node_words, atom_words, side_words, equation_words, equations_words, block_words, theory_words}
+use Rattle.terms.specs.Terms.{Terms, done, node, path}
+use Rattle.grammar.specs.Trees.{Word, Less, Greater, Quote, Colon, Is, Stop, Close, Block, words, closes, theory_words}
 use Rattle.grammar.specs.Parsing
 use Rattle.grammar.specs.Parsing.{Stream, word, over, broken, parse, follow, finish, Step, go, ends, bad, Head, Front, Frames, outside, within, side, ready, then, between, begun, body, lefting, lefted, State, Outcome, accepted, refused}
-use Rattle.grammar.specs.Theorems.{contents, intact, Spells, Reads, Begins, Stuck, Misplaced, WordFaults}
-use Rattle.grammar.proofs.Spelled.{front_words, head_words, round_words, frame_words, phase_words, side_read, spelled, words_then, equations_words_++, theory_words_++, atom_words_++, frame_words_then, cons_++}
+use Rattle.grammar.specs.Theorems.{contents, intact, Reads, Begins, Stuck, Misplaced, WordFaults}
+use Rattle.grammar.proofs.Spelled.{frame_words, side_read, spelled, equations_words_++, theory_words_++, frame_words_then, cons_++}
 use Rattle.grammar.proofs.Sound.{Told, told, never}
 use Rattle.grammar.proofs.Complete.{complete, in_a_row, in_a_row_intact, in_a_row_contents}
 

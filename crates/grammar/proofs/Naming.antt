@@ -1,5 +1,5 @@
 -- Names have their numbers in the table after the text.
-use Rattle.std.proofs.Common.{◌≡◌, ℕ, zero, suc, ◌≤◌, Bool, true, false, cond, ◌&&◌, eqb, ltb, List, [], ◌∷◌, ◌++◌, length, Some, None, Option, sym, refl, ap, ◌∙◌, subst, arith}
+use Rattle.std.proofs.Common.{◌≡◌, ℕ, zero, suc, ◌≤◌, Bool, true, false, cond, ◌&&◌, eqb, ltb, List, [], ◌∷◌, length, Some, sym, refl, ap, ◌∙◌, arith}
 use Rattle.std.specs.Str.{bytes_eq}
 use Rattle.std.proofs.lemmas.Bool.{cond-false, le-ltb, eqb-true}
 use Rattle.stores.specs.Sentences.{Sentence}
@@ -10,12 +10,12 @@ use Rattle.words.specs.declared.faults.WordRefusal.TheVariants.{BadByte, OpenQuo
 use Rattle.words.specs.Words as words
 use Rattle.words.specs.Words.{Token}
 use Rattle.words.specs.Texts.{Words, end_at, fault_at, words_of}
-use Rattle.grammar.specs.Trees.{Word, sentences, Block}
-use Rattle.grammar.specs.Parsing.{Stream, word, over, broken, between, Outcome, accepted, refused}
+use Rattle.grammar.specs.Trees.{sentences, Block}
+use Rattle.grammar.specs.Parsing.{between, Outcome, accepted, refused}
 use Rattle.grammar.specs.Loading.{load}
-use Rattle.grammar.specs.Texts.{Names, token_word, token_names, numbering, all_names, text_limit, load_text, loaded_by, Loaded, kept, rejected}
-use Rattle.grammar.specs.Theorems.{Fits, Misplaced, WordFaults, FourIsFirst}
-use Rattle.grammar.specs.Naming.{IsWord, Numbers, more, ended, fault, Extends, AsMet, NamesAreNumberedAsMet, KeptExactlyIfATheoryIsSpelt, FourIsAtTheFirstMisplacedWord}
+use Rattle.grammar.specs.Texts.{Names, token_word, token_names, numbering, all_names, text_limit, load_text, loaded_by, kept, rejected}
+use Rattle.grammar.specs.Theorems.{Fits, WordFaults, FourIsFirst}
+use Rattle.grammar.specs.Naming.{IsWord, Numbers, more, ended, fault, Extends, NamesAreNumberedAsMet, KeptExactlyIfATheoryIsSpelt, FourIsAtTheFirstMisplacedWord}
 use Rattle.grammar.proofs.Loads.{load_fits, fits_load}
 
 met_keeps_at : (y x z : List ℕ) (ys : List (List ℕ)) → ((j : ℕ) → name_at ys j ≡ Some z → name_at (met ys x) j ≡ Some z) → (c : Bool) (k : ℕ) → name_at (y ∷ ys) k ≡ Some z → name_at (cond c (y ∷ ys) (y ∷ met ys x)) k ≡ Some z

@@ -1,17 +1,12 @@
 -- Every word that is read is spelled by what was read.
 use Rattle.std.proofs.Common.{◌≡◌, ℕ, Bool, true, false, cond, List, [], ◌∷◌, ◌++◌, Some, None, Option, sym, refl, ap, ◌∙◌, subst, append_assoc, append-nil, arith}
-use Rattle.terms.specs.declared.items.Node.{Node}
 use Rattle.terms.specs.declared.items.Atom.{Atom}
-use Rattle.terms.specs.declared.items.Quoting.{Quoting}
 use Rattle.terms.specs.declared.items.Quoting.TheVariants.{Plain as plain, Quoted as quoted}
-use Rattle.terms.specs.declared.items.Item.{Item}
-use Rattle.terms.specs.Terms.{Terms, done, atom, node, path, flat, nesting}
-use Rattle.stores.specs.Sentences.{Sentence}
-use Rattle.stores.specs.Refusals.{Limits, refusal}
-use Rattle.grammar.specs.Trees.{Word, AtomName, NodeName, Less, Greater, Quote, Colon, Is, Stop, Open, Close, Stray, Equation, Block, words, opens, closes, node_words, atom_words, side_words, equation_words, equations_words, block_words, theory_words}
+use Rattle.terms.specs.Terms.{Terms, done, node, path}
+use Rattle.grammar.specs.Trees.{Word, AtomName, NodeName, Less, Greater, Quote, Colon, Is, Stop, Open, Close, Stray, Block, atom_words, theory_words}
 use Rattle.grammar.specs.Parsing
 use Rattle.grammar.specs.Theorems.{contents, intact, Spells}
-use Rattle.grammar.proofs.Spelled.{front_words, head_words, round_words, frame_words, phase_words, side_read, spelled, words_then, equations_words_++, theory_words_++, atom_words_++, frame_words_then, only_atoms, cons_++}
+use Rattle.grammar.proofs.Spelled.{front_words, phase_words, side_read, spelled, equations_words_++, theory_words_++, atom_words_++, frame_words_then, only_atoms, cons_++}
 
 -- a step from the words ws by w comes to a state that spells ws and w
 abbrev pub Told : List Word → Word → Parsing.Step → Type 0

@@ -1,13 +1,10 @@
 -- What a step keeps: the sentences, and how deep paths nest.
-use Rattle.std.proofs.Common.{◌≡◌, ℕ, zero, suc, ◌+◌, ◌≤◌, max, Bool, true, false, cond, List, [], ◌∷◌, ◌++◌, Some, None, Option, sym, refl, ap, ◌∙◌, subst, append_assoc, append-nil, arith}
+use Rattle.std.proofs.Common.{◌≡◌, ℕ, suc, ◌+◌, ◌≤◌, max, Bool, true, false, cond, List, [], ◌∷◌, ◌++◌, Some, None, Option, refl, ap, ◌∙◌, subst, append_assoc, append-nil, arith}
 use Rattle.terms.specs.declared.items.Node.{Node}
 use Rattle.terms.specs.declared.items.Atom.{Atom}
-use Rattle.terms.specs.declared.items.Quoting.{Quoting}
 use Rattle.terms.specs.declared.items.Quoting.TheVariants.{Plain as plain, Quoted as quoted}
-use Rattle.terms.specs.declared.items.Item.{Item}
-use Rattle.terms.specs.Terms.{Terms, done, atom, node, path, flat, nesting}
+use Rattle.terms.specs.Terms.{Terms, done, atom, node, path, nesting}
 use Rattle.stores.specs.Sentences.{Sentence}
-use Rattle.stores.specs.Refusals.{Limits, refusal}
 use Rattle.grammar.specs.Trees.{Word, AtomName, NodeName, Less, Greater, Quote, Colon, Is, Stop, Open, Close, Stray, Equation, Block, sentence, sentences, block_sentences, equations_nesting, theory_nesting}
 use Rattle.grammar.specs.Parsing
 use Rattle.grammar.proofs.Spelled.{more}

@@ -7,7 +7,7 @@ use Rattle.stores.specs.Sentences.{Sentence, map_of}
 use Rattle.stores.specs.declared.refusals.Refusal.TheVariants as refusals
 use Rattle.stores.specs.Refusals.{Limits, number, over as over-limits}
 use Rattle.grammar.specs.Trees.{Word, AtomName, NodeName, Less, Greater, Quote, Colon, Is, Stop, Open, Close, Stray}
-use Rattle.grammar.specs.Parsing.{Stream, word, over, broken, State, Step, go, ends, bad, step, finish, Outcome, accepted, refused, so_far, depth}
+use Rattle.grammar.specs.Parsing.{Stream, word, over, broken, State, Step, go, ends, bad, step, finish, Outcome, refused, so_far, depth}
 
 -- a name's number is below the limit
 abbrev pub numbered : Word → Bool

@@ -9,7 +9,7 @@ use Rattle.words.specs.Words.{Token}
 use Rattle.words.specs.Texts.{Words, end_at, fault_at, words_of}
 use Rattle.grammar.specs.Trees.{Word, AtomName, NodeName, Stray, Block, sentences}
 use Rattle.grammar.specs.Parsing.{Stream, word, over, broken}
-use Rattle.grammar.specs.Texts.{Names, sign_word, numbering, all_names, text_limit, load_text, Loaded, kept, rejected}
+use Rattle.grammar.specs.Texts.{Names, sign_word, numbering, all_names, text_limit, load_text, kept, rejected}
 use Rattle.grammar.specs.Theorems.{Fits, Misplaced}
 
 -- v is the word t, its name being numbered by the table

@@ -1,7 +1,5 @@
 -- The words of a text, their names numbered as first met; and what loading a text gives.
 use Rattle.std.specs.Prelude.{ℕ, cond, List, [], length, nat_lt}
-use Rattle.terms.specs.declared.items.Node.{Node}
-use Rattle.terms.specs.declared.items.Atom.{Atom}
 use Rattle.stores.specs.Sentences.{Sentence}
 use Rattle.stores.specs.Refusals.{Limits}
 use Rattle.names.specs.Numbers.{number, met}

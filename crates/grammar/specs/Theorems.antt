@@ -1,10 +1,10 @@
 -- What is claimed of the grammar.
-use Rattle.std.specs.Prelude.{◌≡◌, ℕ, ◌≤◌, Bool, true, false, ◌↔◌, List, [], ◌∷◌, ◌++◌, Some, None, ◌≢◌}
+use Rattle.std.specs.Prelude.{◌≡◌, ℕ, ◌≤◌, Bool, true, false, ◌↔◌, List, [], ◌∷◌, ◌++◌, None, ◌≢◌}
 use Rattle.terms.specs.Limits.{nesting_limit}
 use Rattle.stores.specs.Sentences.{Sentence}
 use Rattle.stores.specs.Refusals.{Limits}
 use Rattle.grammar.specs.Trees.{Word, Block, theory_words, theory_nesting, sentences}
-use Rattle.grammar.specs.Parsing.{Stream, word, over, broken, State, between, parse, Outcome, accepted, refused}
+use Rattle.grammar.specs.Parsing.{Stream, word, over, broken, between, parse, accepted, refused}
 use Rattle.grammar.specs.Loading.{numbered, late_refusal, load}
 
 -- the words of a stream, which may end by a fault

@@ -1,4 +1,4 @@
-use Rattle.std.proofs.Common.{◌≡◌, []}
+use Rattle.std.proofs.Common.{[]}
 use Rattle.grammar.specs.Parsing.{between}
 use Rattle.grammar.specs.Theorems.{FourIsFirst}
 use Rattle.grammar.proofs.Loads.{four}

@@ -1,5 +1,5 @@
 -- The next word: the words from before it on are that word and those behind it.
-use Rattle.std.proofs.Common.{◌≡◌, ℕ, suc, ◌-◌, ◌≤◌, List, length, drop, IfOk, Ok, Err, Result, sym, refl, ap, ◌∙◌, subst, arith, Bor}
+use Rattle.std.proofs.Common.{◌≡◌, ℕ, suc, ◌-◌, ◌≤◌, List, length, drop, IfOk, Ok, Err, Result, sym, ap, ◌∙◌, subst, arith, Bor}
 use Rattle.words.specs.declared.faults.WordFault.{WordFault}
 use Rattle.words.specs.declared.reader.WordReader.{WordReader}
 use Rattle.words.specs.declared.word.Placed.{Placed}

@@ -1,14 +1,12 @@
 -- A line is a question exactly if it has a question's words, and nothing exactly if it has none.
-use Rattle.std.proofs.Common.{◌≡◌, ℕ, suc, ◌+◌, ◌<◌, ◌≤◌, Bool, true, false, cond, ◌&&◌, ltb, leb, ◌⊎◌, List, [], ◌∷◌, ◌++◌, map, length, Some, sym, refl, ap, ◌∙◌, subst, inl, inr, append_assoc, append-nil, arith, length-append}
+use Rattle.std.proofs.Common.{◌≡◌, ℕ, ◌+◌, ◌<◌, ◌≤◌, Bool, true, false, cond, ltb, leb, ◌⊎◌, List, [], ◌∷◌, ◌++◌, map, length, Some, sym, refl, ap, ◌∙◌, subst, inl, inr, append_assoc, append-nil, arith, length-append}
 use lib.ListN.{length-map}
-use Rattle.std.proofs.lemmas.Bool.{cond-true, cond-false, leb-true, le-leb, cases_lt, and_parts, and_from}
+use Rattle.std.proofs.lemmas.Bool.{cond-true, leb-true, le-leb, cases_lt, and_parts, and_from}
 use Rattle.terms.specs.declared.items.Node.{Node}
 use Rattle.terms.specs.declared.items.Atom.{Atom}
 use Rattle.terms.specs.Limits.{node_limit, atom_limit, path_limit}
 use Rattle.terms.specs.Maps.{every, node_in_range, atom_in_range}
 use Rattle.names.specs.Numbers.{number, name_at}
-use Rattle.words.specs.declared.faults.WordRefusal.{WordRefusal}
-use Rattle.words.specs.Words as words
 use Rattle.words.specs.Words.{Sign, Token}
 use Rattle.words.specs.Texts.{Words, end_at, fault_at, words_of}
 use Rattle.grammar.specs.Texts.{Names, token_names, all_names}
@@ -17,7 +15,7 @@ use Rattle.grammar.proofs.Naming.{names_are_numbered_as_met}
 use Rattle.questions.specs.Refusals.{line_limit}
 use Rattle.questions.specs.Lines.{Line, nothing, asks, rejected, node_of, atom_of, is_colon_lem, is_less_lem, is_greater, is_sign, past, to_the_end, in_path, behind_node, line_from, read_line}
 use Rattle.questions.specs.Questions.{Are, ended, next, path_words, question_words, Asks, Named, IsReadRightly}
-use Rattle.questions.proofs.Numbers.{Stays, node_numbered, atom_numbered, named, In}
+use Rattle.questions.proofs.Numbers.{node_numbered, atom_numbered, named, In}
 use Rattle.questions.proofs.Whole.{too_long, not_long}
 
 -- lines are told apart

@@ -1,5 +1,5 @@
 -- A line that is refused has the fault that it is refused for.
-use Rattle.std.proofs.Common.{◌≡◌, ℕ, ◌+◌, ◌<◌, ◌≤◌, Bool, true, false, cond, ltb, leb, ◌⊎◌, List, [], ◌∷◌, ◌++◌, map, length, sym, refl, ap, ◌∙◌, subst, inl, inr, append_assoc, append-nil, arith, length-append}
+use Rattle.std.proofs.Common.{◌≡◌, ℕ, ◌<◌, ◌≤◌, Bool, true, false, cond, ltb, leb, ◌⊎◌, List, [], ◌∷◌, ◌++◌, map, length, sym, refl, ap, ◌∙◌, subst, inl, inr, append_assoc, append-nil, arith, length-append}
 use Rattle.std.proofs.lemmas.List.{map_push}
 use Rattle.std.proofs.lemmas.Bool.{leb-false, cases_lt}
 use Rattle.terms.specs.declared.items.Node.{Node}
@@ -10,9 +10,9 @@ use Rattle.words.specs.Words.{Sign, Token}
 use Rattle.words.specs.Texts.{Words, end_at, fault_at, words_of}
 use Rattle.grammar.specs.Texts.{Names, token_names}
 use Rattle.questions.specs.Refusals.{line_limit}
-use Rattle.questions.specs.Lines.{Line, nothing, asks, rejected, node_of, atom_of, is_colon_lem, is_less_lem, is_greater, is_sign, past, to_the_end, in_path, behind_node, line_from, read_line}
+use Rattle.questions.specs.Lines.{Line, asks, rejected, node_of, atom_of, is_colon_lem, is_less_lem, is_greater, is_sign, past, to_the_end, in_path, behind_node, line_from, read_line}
 use Rattle.questions.specs.Questions.{path_words, question_words}
-use Rattle.questions.specs.FirstFaults.{Begins, Whole, numbered, FirstFault, no_word, misplaced, too_early, no_number, long_path, further, Refused, long_line, at_fault, IsRefusedRightly}
+use Rattle.questions.specs.FirstFaults.{Begins, Whole, FirstFault, no_word, misplaced, too_early, no_number, long_path, further, Refused, long_line, at_fault, IsRefusedRightly}
 use Rattle.questions.proofs.Whole.{too_long, not_long}
 use Rattle.questions.proofs.Exactly.{a_colon, a_less, a_greater}
 

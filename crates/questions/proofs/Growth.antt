@@ -1,8 +1,8 @@
 -- Names only grow, and can be cut back.
-use Rattle.std.proofs.Common.{◌≡◌, ℕ, Bool, true, false, cond, ltb, List, [], ◌∷◌, ◌++◌, length, take, sym, refl, ap, ◌∙◌, subst, append_assoc, append-nil}
+use Rattle.std.proofs.Common.{◌≡◌, ℕ, Bool, true, false, cond, List, [], ◌∷◌, ◌++◌, length, take, sym, refl, ap, ◌∙◌, subst, append_assoc, append-nil}
 use lib.Seq.{take-append_seam}
 use Rattle.std.specs.Str.{bytes_eq}
-use Rattle.names.specs.Numbers.{number, met}
+use Rattle.names.specs.Numbers.{met}
 use Rattle.words.specs.Words.{Token}
 use Rattle.grammar.specs.Texts.{Names, token_names}
 use Rattle.questions.specs.Steps.{Longer, Grown, names_with_node, names_with_atom}

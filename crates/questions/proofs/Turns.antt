@@ -1,8 +1,7 @@
 -- One turn of reading a path's atoms.
-use Rattle.std.proofs.Common.{◌≡◌, ℕ, suc, ◌+◌, ◌<◌, ◌≤◌, min, Bool, true, false, cond, ltb, leb, List, [], ◌∷◌, ◌++◌, length, take, Some, None, Ok, Err, Option, Result, sym, refl, ap, ◌∙◌, subst, arith, length-append, Bor}
-use Rattle.std.specs.Option.{option_map}
-use Rattle.std.proofs.lemmas.Bool.{cond-true, cond-false, ltb-true, ltb-false, leb-true, leb-false, le-leb, lt-leb, lt-ltb, le-ltb}
-use Rattle.std.proofs.lemmas.List.{length-take, length-take-le, take_all, take-append-le}
+use Rattle.std.proofs.Common.{◌≡◌, ℕ, suc, ◌+◌, ◌<◌, ◌≤◌, min, Bool, true, false, cond, ltb, leb, List, [], ◌∷◌, ◌++◌, length, take, Some, None, Ok, Err, Result, sym, refl, ap, ◌∙◌, arith, length-append, Bor}
+use Rattle.std.proofs.lemmas.Bool.{cond-true, cond-false, ltb-true, ltb-false, leb-true, le-leb, lt-leb}
+use Rattle.std.proofs.lemmas.List.{length-take, take_all, take-append-le}
 use Rattle.terms.specs.declared.items.Node.{Node}
 use Rattle.terms.specs.declared.items.Atom.{Atom}
 use Rattle.terms.specs.Limits.{atom_limit, path_limit}
@@ -17,7 +16,7 @@ use Rattle.words.specs.Words.{Token, token}
 use Rattle.words.specs.Texts.{Words, fault_at, onward, word_count}
 use Rattle.grammar.specs.Texts.{Names, token_names}
 use Rattle.questions.specs.declared.faults.NameFault.{NameFault}
-use Rattle.questions.specs.Lines.{Line, rejected, atom_of, is_greater, is_sign, to_the_end, in_path}
+use Rattle.questions.specs.Lines.{rejected, atom_of, is_greater, is_sign, to_the_end, in_path}
 use Rattle.questions.specs.Steps.{Grown, atom_or_fault, names_with_atom, within}
 use Rattle.questions.proofs.Growth
 

@@ -1,5 +1,5 @@
 -- The line from its node on, and the whole line.
-use Rattle.std.proofs.Common.{◌≡◌, ℕ, ◌<◌, ◌≤◌, Bool, true, false, cond, ltb, List, [], length, take, is_err, Some, None, Ok, Err, Option, Result, sym, refl, ap, ◌∙◌, subst, arith, Bor}
+use Rattle.std.proofs.Common.{◌≡◌, ℕ, ◌<◌, ◌≤◌, Bool, true, false, ltb, List, length, is_err, Some, None, Ok, Err, Option, Result, sym, refl, ap, ◌∙◌, arith, Bor}
 use Rattle.std.proofs.lemmas.Bool.{cond-true, cond-false, lt-ltb, le-ltb}
 use Rattle.terms.specs.declared.items.Node.{Node}
 use Rattle.terms.specs.Limits.{node_limit}
@@ -14,9 +14,8 @@ use Rattle.grammar.specs.Texts.{Names, token_names}
 use Rattle.questions.specs.declared.faults.LineFault.{LineFault}
 use Rattle.questions.specs.declared.asked.Asked.{Asked}
 use Rattle.questions.specs.Refusals.{line_limit}
-use Rattle.questions.specs.Lines.{Line, nothing, asks, rejected, node_of, behind_node, line_from, read_line, names_left, line_of}
-use Rattle.questions.specs.Steps.{Grown, words_left, node_or_fault, names_with_node, asked_at, ReadsPath, Unnamed}
-use Rattle.questions.proofs.Growth
+use Rattle.questions.specs.Lines.{rejected, node_of, behind_node, line_from, read_line, names_left, line_of}
+use Rattle.questions.specs.Steps.{words_left, node_or_fault, names_with_node, asked_at, ReadsPath, Unnamed}
 use Rattle.questions.proofs.Turns.{ok_is, no_ok}
 
 pub at_start : (line : List ℕ) (rd : WordReader) → rd.text.now ≡ line → rd.at ≡ 0 → words_of line ≡ words_left rd

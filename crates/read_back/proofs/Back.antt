@@ -1,21 +1,19 @@
 -- What is written is read back.
-use Rattle.std.proofs.Common.{◌≡◌, ℕ, ◌<◌, ◌≤◌, Bool, true, false, ◌&&◌, ltb, List, [], ◌∷◌, ◌++◌, map, length, Some, sym, refl, ap, ◌∙◌, subst, append-nil, arith}
+use Rattle.std.proofs.Common.{◌≡◌, ℕ, ◌≤◌, true, List, [], ◌∷◌, ◌++◌, map, length, Some, sym, refl, ap, ◌∙◌, subst, append-nil, arith}
 use Rattle.std.proofs.lemmas.Bool.{and_from, lt-ltb}
-use Rattle.terms.specs.declared.items.Node.{Node}
 use Rattle.terms.specs.declared.items.Atom.{Atom}
 use Rattle.terms.specs.Limits.{node_limit, atom_limit, path_limit}
 use Rattle.terms.specs.Maps.{every, atom_in_range}
-use Rattle.names.specs.Numbers.{number, met, name_at}
+use Rattle.names.specs.Numbers.{name_at}
 use Rattle.words.specs.Words.{Sign, Token}
 use Rattle.words.specs.Texts.{Words, words_of}
-use Rattle.grammar.specs.Texts.{Names, token_names, all_names}
-use Rattle.questions.specs.Refusals.{line_limit}
-use Rattle.questions.specs.Lines.{asks, node_of, atom_of, read_line}
-use Rattle.questions.specs.Questions.{Are, ended, next, path_words, question_words, Asks}
+use Rattle.grammar.specs.Texts.{Names, all_names}
+use Rattle.questions.specs.Lines.{atom_of}
+use Rattle.questions.specs.Questions.{Are, ended, next, question_words}
 use Rattle.questions.proofs.Exactly.{is_read_rightly}
-use Rattle.lines.specs.Bytes.{names_at, question_bytes, value_bytes}
-use Rattle.read_back.specs.Spellings.{node_name, atom_name, Spellable, Within}
-use Rattle.read_back.specs.Theorems.{QuestionComesBack, QuestionsComeBack, ValueComesBack, ValuesComeBack, NamesStaySpellable}
+use Rattle.lines.specs.Bytes.{question_bytes, value_bytes}
+use Rattle.read_back.specs.Spellings.{node_name, atom_name, Spellable}
+use Rattle.read_back.specs.Theorems.{QuestionsComeBack, ValuesComeBack, NamesStaySpellable}
 use Rattle.read_back.proofs.Words.{question_are, value_are}
 use Rattle.read_back.proofs.Tables.{every_at, inside, number_at, met_at, AllNamed, done, also, all_named}
 use Rattle.read_back.proofs.Spelt.{still_spellable}

@@ -1,12 +1,11 @@
 -- Words only have names that can be spelt.
-use Rattle.std.proofs.Common.{◌≡◌, ℕ, ◌≤◌, Bool, true, false, cond, not, ◌&&◌, eqb, leb, List, [], ◌∷◌, ◌++◌, length, sym, refl, ap, ◌∙◌, subst, arith}
+use Rattle.std.proofs.Common.{◌≡◌, ℕ, ◌≤◌, Bool, true, false, cond, not, ◌&&◌, eqb, leb, List, [], ◌∷◌, length, sym, refl, ap, ◌∙◌, arith}
 use Rattle.std.proofs.lemmas.Bool.{and_from, le-leb, eqb-true}
 use Rattle.terms.specs.Maps.{every}
-use Rattle.classes.specs.declared.ByteClass.{ByteClass}
 use Rattle.classes.specs.declared.ByteClass.TheVariants as class
 use Rattle.classes.specs.Classes.{blank, control, printed, class_of}
 use Rattle.words.specs.Words.{Token, of_name, is_name, name_limit}
-use Rattle.words.specs.Texts.{Words, end_at, fault_at, words_of, Each, Spells, Reads}
+use Rattle.words.specs.Texts.{Words, words_of, Each, Spells, Reads}
 use Rattle.words.proofs.Exact.{words_are_exact}
 use Rattle.grammar.specs.Texts.{Names, token_names, all_names}
 use Rattle.read_back.specs.Spellings.{is_capital, node_name, atom_name, Spellable}

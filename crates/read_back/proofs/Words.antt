@@ -1,5 +1,5 @@
 -- The words of what is written.
-use Rattle.std.proofs.Common.{◌≡◌, ℕ, ◌+◌, ◌≤◌, Bool, true, false, cond, ◌&&◌, leb, List, [], ◌∷◌, ◌++◌, map, length, sym, refl, ap, ◌∙◌, subst, append_assoc, append-nil, arith}
+use Rattle.std.proofs.Common.{◌≡◌, ℕ, ◌+◌, ◌≤◌, Bool, true, false, cond, ◌&&◌, leb, List, [], ◌∷◌, ◌++◌, map, length, sym, refl, subst, append_assoc, append-nil, arith}
 use Rattle.std.proofs.lemmas.Bool.{and_parts, leb-true}
 use Rattle.terms.specs.Maps.{every}
 use Rattle.classes.specs.declared.ByteClass.{ByteClass}
@@ -9,7 +9,7 @@ use Rattle.classes.specs.Classes.{class_of}
 use Rattle.words.specs.Words.{Sign, Token, of_name, name_limit}
 use Rattle.words.specs.Texts.{Words, words_of, Each, Ends, Gap, Spells, Reads}
 use Rattle.words.proofs.Exact.{words_are_exact}
-use Rattle.questions.specs.Questions.{Are, ended, next, path_words, question_words}
+use Rattle.questions.specs.Questions.{Are, ended, next, question_words}
 use Rattle.lines.specs.Bytes.{is_plain, bare, atom_bytes, value_bytes, spaced, question_bytes}
 use Rattle.read_back.specs.Spellings.{is_capital, node_name, atom_name}
 

@@ -5,7 +5,7 @@ use Rattle.machine.specs.Steps.{Open, State, next, after, step_of, steps_taken}
 use Rattle.machine.specs.Items.{meant, comes_to}
 use Rattle.machine.proofs.Steps.{steps_add_up, taken_none}
 use Rattle.engine.specs.declared.table.Phase.{Phase}
-use Rattle.engine.specs.declared.machine.Machine.{Machine}
+use Rattle.engine.specs.declared.inner.Machine.{Machine}
 use Rattle.engine.specs.States.{parts}
 use Rattle.engine.specs.Between.{state_in, Rests}
 use Rattle.engine.specs.declared.table.Phase.TheVariants as phase

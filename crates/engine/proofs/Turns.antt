@@ -20,7 +20,7 @@ use Rattle.sentences.specs.declared.table.Open.{Open}
 use Rattle.sentences.specs.declared.table.Inside.{Inside}
 use Rattle.engine.specs.declared.table.Phase.{Phase}
 use Rattle.engine.specs.declared.table.Phase.TheVariants as phase
-use Rattle.engine.specs.declared.machine.Machine.{Machine}
+use Rattle.engine.specs.declared.inner.Machine.{Machine}
 use Rattle.engine.specs.Phases.{most_open}
 use Rattle.sentences.specs.Kept.{question_of}
 use Rattle.engine.specs.States.{positions_of, built_of, progress_of, parts, positions_in, built_in, WantedInRange, Room, roomy, LeftWithin, answered}

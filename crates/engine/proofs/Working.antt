@@ -14,7 +14,7 @@ use Rattle.path.proofs.Paths.{length_atoms}
 use Rattle.sentences.specs.declared.table.Question.{Question as Kept}
 use Rattle.sentences.specs.declared.table.Open.{Open}
 use Rattle.engine.specs.declared.table.Stop.{Stop}
-use Rattle.engine.specs.declared.machine.Machine.{Machine}
+use Rattle.engine.specs.declared.inner.Machine.{Machine}
 use Rattle.engine.specs.Phases.{least_open}
 use Rattle.sentences.specs.Kept.{question_of, position_of, Asks}
 use Rattle.engine.proofs.Stacks.{posed_asks}

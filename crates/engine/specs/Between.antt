@@ -9,7 +9,7 @@ use Rattle.machine.specs.Bounds.{InsidesMatch, Asked}
 use Rattle.engine.specs.declared.table.Phase.{Phase}
 use Rattle.engine.specs.declared.table.Phase.TheVariants as phase
 use Rattle.engine.specs.declared.table.Worked.{Worked}
-use Rattle.engine.specs.declared.machine.Machine.{Machine}
+use Rattle.engine.specs.declared.inner.Machine.{Machine}
 use Rattle.engine.specs.States.{progress_of, positions_in}
 
 -- the state that the step which a machine is in comes to; between steps, the state that it is in

@@ -16,7 +16,7 @@ use Rattle.engine.specs.declared.table.Stop.{Stop}
 use Rattle.engine.specs.declared.table.Stop.TheVariants as stop
 use Rattle.engine.specs.declared.table.Phase.{Phase}
 use Rattle.engine.specs.declared.table.Phase.TheVariants as phase
-use Rattle.engine.specs.declared.machine.Machine.{Machine}
+use Rattle.engine.specs.declared.inner.Machine.{Machine}
 use Rattle.sentences.specs.Kept.{question_of, position_of}
 
 -- why there is no value, by case

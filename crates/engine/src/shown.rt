@@ -1,7 +1,7 @@
 // What a machine shows.
 ghost use Rattle.std.specs.Prelude.{◌≡◌};
 
-use crate::machine::Machine;
+use crate::inner::Machine;
 use crate::table::Phase;
 use terms::Atom;
 

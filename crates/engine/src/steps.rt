@@ -4,7 +4,7 @@ ghost use Rattle.machine.specs.Bounds.{work_left, asked_limit};
 ghost use Rattle.engine.specs.States.{progress_of, positions_in};
 ghost use Rattle.engine.specs.Between.{next_item, Rests, TakesAnItem, TakesAStep, TakesSteps};
 
-use crate::machine::Machine;
+use crate::inner::Machine;
 use crate::table::{Phase, Worked};
 use stores::Store;
 use terms::Item;

@@ -10,7 +10,7 @@ ghost use Rattle.engine.specs.States.{progress_of, posed, built_in, positions_in
 ghost use Rattle.terms.specs.declared.items.Item.TheVariants as item;
 ghost use Rattle.rules.specs.Outcomes as outcomes;
 
-use crate::machine::Machine;
+use crate::inner::Machine;
 use crate::table::{Phase, Stop};
 use path::Path;
 use sentences::{Inside, Open, Question};

@@ -20,7 +20,7 @@ use Rattle.engine.specs.declared.table.Stop.TheVariants as stop
 use Rattle.engine.specs.declared.table.Phase.{Phase}
 use Rattle.engine.specs.declared.table.Phase.TheVariants as phase
 use Rattle.engine.specs.declared.table.Worked.{Worked}
-use Rattle.engine.specs.declared.machine.Machine.{Machine}
+use Rattle.engine.specs.declared.inner.Machine.{Machine}
 use Rattle.sentences.specs.Kept.{question_of}
 use Rattle.engine.specs.States.{parts, progress_of, stop_of}
 use Rattle.engine.specs.Between.{Rests, Between, WentOn}

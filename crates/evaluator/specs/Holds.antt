@@ -10,7 +10,7 @@ use Rattle.machine.specs.Steps.{after, steps_taken, start}
 use Rattle.sentences.specs.declared.table.Question.{Question as Kept}
 use Rattle.engine.specs.declared.table.Phase.{Phase}
 use Rattle.engine.specs.declared.table.Phase.TheVariants as phase
-use Rattle.engine.specs.declared.machine.Machine.{Machine}
+use Rattle.engine.specs.declared.inner.Machine.{Machine}
 use Rattle.sentences.specs.Kept.{question_of}
 use Rattle.engine.specs.States.{stop_of}
 use Rattle.engine.specs.Between.{state_in, Between}

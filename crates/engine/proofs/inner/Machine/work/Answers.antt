@@ -5,7 +5,7 @@ use Rattle.engine.specs.States.{progress_of}
 use Rattle.engine.specs.Between.{state_in}
 use Rattle.engine.proofs.Turns.{asked_on}
 use Rattle.engine.proofs.Grants.{after_next, taken_next, over, ended, asks_one}
-use Rattle.engine.proofs.machine.Machine.work.Goals as goal
+use Rattle.engine.proofs.inner.Machine.work.Goals as goal
 
 pub loop-steps-init : goal.loop-steps-init
 unfolding after steps_taken

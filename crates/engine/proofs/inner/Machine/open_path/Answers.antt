@@ -5,7 +5,7 @@ use Rattle.engine.specs.States.{positions_in, built_in, built_of, top_onward}
 use Rattle.engine.proofs.Stacks.{built_push}
 use Rattle.engine.proofs.Working.{at_work, some_is_open, took_open}
 use Rattle.terms.specs.declared.items.Item.TheVariants as item
-use Rattle.engine.proofs.machine.Machine.open_path.Goals as goal
+use Rattle.engine.proofs.inner.Machine.open_path.Goals as goal
 
 pub returns : goal.returns
 returns c =

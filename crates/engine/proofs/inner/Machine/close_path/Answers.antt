@@ -8,7 +8,7 @@ use Rattle.engine.specs.States.{positions_of, built_of, built_in, posed, PlaceIn
 use Rattle.engine.proofs.Stacks.{positions_last, positions_set, built_push, none_long}
 use Rattle.engine.proofs.Working.{at_work, some_is_open, took_close}
 use Rattle.terms.specs.declared.items.Item.TheVariants as item
-use Rattle.engine.proofs.machine.Machine.close_path.Goals as goal
+use Rattle.engine.proofs.inner.Machine.close_path.Goals as goal
 
 pub returns-in_default : goal.returns-in_default
 returns-in_default c =

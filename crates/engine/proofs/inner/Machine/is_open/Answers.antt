@@ -5,7 +5,7 @@ use Rattle.rules.specs.Evaluation.{among}
 use Rattle.machine.specs.Items.{questions_at}
 use Rattle.engine.specs.States.{positions_of}
 use Rattle.engine.proofs.Stacks.{among_at, among_more}
-use Rattle.engine.proofs.machine.Machine.is_open.Goals as goal
+use Rattle.engine.proofs.inner.Machine.is_open.Goals as goal
 
 pub returns-then-same : goal.returns-then-same
 returns-then-same c =

@@ -2,7 +2,7 @@ use Rattle.std.proofs.Common.{Some, vec_items, sym, ap, ◌∙◌}
 use Rattle.machine.specs.Items.{working}
 use Rattle.engine.specs.States.{positions_of, parts, progress_of, built_in, answered}
 use Rattle.engine.proofs.Stacks.{positions_push}
-use Rattle.engine.proofs.machine.Machine.found.Goals as goal
+use Rattle.engine.proofs.inner.Machine.found.Goals as goal
 
 pub returns-in-Asks-Some : goal.returns-in-Asks-Some
 returns-in-Asks-Some c =

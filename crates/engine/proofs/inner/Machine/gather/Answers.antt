@@ -5,7 +5,7 @@ use Rattle.machine.specs.Steps.{whole, inside, room, full, put}
 use Rattle.path.specs.Atoms.{atoms_of}
 use Rattle.engine.specs.States.{built_of}
 use Rattle.engine.proofs.Stacks.{built_last, built_set, none_long}
-use Rattle.engine.proofs.machine.Machine.gather.Goals as goal
+use Rattle.engine.proofs.inner.Machine.gather.Goals as goal
 
 pub returns-then-push : goal.returns-then-push
 returns-then-push c =

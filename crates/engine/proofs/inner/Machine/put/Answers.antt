@@ -3,7 +3,7 @@ use Rattle.machine.specs.Items.{working, took}
 use Rattle.engine.specs.States.{positions_in, built_in, top_onward}
 use Rattle.engine.proofs.Working.{at_work, some_is_open, took_atom, took_none}
 use Rattle.terms.specs.declared.items.Item.TheVariants as item
-use Rattle.engine.proofs.machine.Machine.put.Goals as goal
+use Rattle.engine.proofs.inner.Machine.put.Goals as goal
 
 pub returns-in-None : goal.returns-in-None
 returns-in-None c =

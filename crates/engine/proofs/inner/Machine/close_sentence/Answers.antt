@@ -5,7 +5,7 @@ use Rattle.engine.specs.Phases.{least_open}
 use Rattle.engine.specs.States.{parts, positions_of, built_in}
 use Rattle.engine.proofs.Stacks.{below_last, built_so_far}
 use Rattle.engine.proofs.Working.{at_work, some_position, closed_some}
-use Rattle.engine.proofs.machine.Machine.close_sentence.Goals as goal
+use Rattle.engine.proofs.inner.Machine.close_sentence.Goals as goal
 
 pub returns-then-below-eq0 : goal.returns-then-below-eq0
 returns-then-below-eq0 c =

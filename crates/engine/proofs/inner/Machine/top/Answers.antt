@@ -2,7 +2,7 @@ use Rattle.std.proofs.Common.{◌≡◌, ◌-◌, ◌<◌, get_or, vec_items, ve
 use Rattle.engine.specs.Phases.{least_open}
 use Rattle.engine.specs.States.{Top}
 use Rattle.engine.proofs.Stacks.{positions_last}
-use Rattle.engine.proofs.machine.Machine.top.Goals as goal
+use Rattle.engine.proofs.inner.Machine.top.Goals as goal
 
 pub returns : goal.returns
 returns c =

@@ -3,7 +3,7 @@ use Rattle.machine.specs.Steps.{after, steps_taken}
 use Rattle.machine.specs.Bounds.{Asked, asked_limit}
 use Rattle.engine.specs.States.{progress_of}
 use Rattle.engine.specs.Between.{state_in, Between}
-use Rattle.engine.proofs.machine.Machine.work.Given as goal
+use Rattle.engine.proofs.inner.Machine.work.Given as goal
 
 abbrev pub invariant-loop-steps : goal.invariant-loop-steps
 invariant-loop-steps g l =

@@ -6,7 +6,7 @@ use Rattle.engine.specs.States.{positions_of, built_in, posed, PlaceInRange}
 use Rattle.engine.proofs.Stacks.{positions_last, positions_set}
 use Rattle.engine.proofs.Working.{at_work, took_node}
 use Rattle.terms.specs.declared.items.Item.TheVariants as item
-use Rattle.engine.proofs.machine.Machine.ask_node.Goals as goal
+use Rattle.engine.proofs.inner.Machine.ask_node.Goals as goal
 
 pub advance-requires : goal.advance-requires
 advance-requires c =

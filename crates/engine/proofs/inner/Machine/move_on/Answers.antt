@@ -2,7 +2,7 @@ use Rattle.std.proofs.Common.{◌≡◌, ◌-◌, ◌<◌, ◌∷◌, length, ta
 use Rattle.std.proofs.lemmas.Bool.Decides.{nat_tests}
 use Rattle.engine.specs.States.{positions_of, top_onward, PlaceInRange}
 use Rattle.engine.proofs.Stacks.{positions_last, positions_set, none_long}
-use Rattle.engine.proofs.machine.Machine.move_on.Goals as goal
+use Rattle.engine.proofs.inner.Machine.move_on.Goals as goal
 
 pub advance-requires : goal.advance-requires
 advance-requires c =

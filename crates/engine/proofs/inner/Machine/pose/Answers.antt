@@ -3,7 +3,7 @@ use Rattle.terms.specs.Limits.{open_limit}
 use Rattle.machine.specs.Items.{reached}
 use Rattle.engine.specs.States.{posed, positions_in, built_in}
 use Rattle.engine.proofs.Working.{posed_circular, posed_depth, posed_next}
-use Rattle.engine.proofs.machine.Machine.pose.Goals as goal
+use Rattle.engine.proofs.inner.Machine.pose.Goals as goal
 
 pub returns-then-is_open : goal.returns-then-is_open
 returns-then-is_open c =

@@ -1,5 +1,5 @@
 -- The number, place and layer of a fault of a load.
-use Rattle.std.specs.Prelude.{cond, ℕ, leb}
+use Rattle.std.specs.Prelude.{cond, ℕ, nat_le}
 use Rattle.faults.specs.declared.kinds.GrammarFault.{GrammarFault}
 use Rattle.faults.specs.declared.kinds.GrammarFault.TheVariants as grammar
 use Rattle.faults.specs.declared.kinds.LoadFault.{LoadFault}
@@ -28,4 +28,4 @@ layer (Grammar e) = grammar_layer_lem e
 
 -- the layer of each number: words 1 to 3, grammar 4 and 5, keeper 6 to 9, names 10, loader 11
 abbrev pub layer_of : ℕ → Layer
-layer_of n = cond (leb n 3) layers.Words (cond (leb n 5) layers.Grammar (cond (leb n 9) layers.Keeper (cond (leb n 10) layers.Names layers.Loader)))
+layer_of n = cond (nat_le n 3) layers.Words (cond (nat_le n 5) layers.Grammar (cond (nat_le n 9) layers.Keeper (cond (nat_le n 10) layers.Names layers.Loader)))

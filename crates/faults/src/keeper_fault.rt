@@ -1,5 +1,5 @@
 // What a keeper refuses of a sentence that the grammar lets pass.
-ghost use Rattle.std.specs.Prelude.{◌≡◌, true, leb};
+ghost use Rattle.std.specs.Prelude.{◌≡◌, true, nat_le};
 ghost use Rattle.stores.specs.Refusals.{number};
 
 use stores::Refusal;
@@ -9,5 +9,5 @@ use stores::Refusal;
 pub struct KeeperFault {
     pub refusal: Refusal,
     pub place: usize,
-    ghost late: { leb 6 (number refusal) ≡ true },
+    ghost late: { nat_le 6 (number refusal) ≡ true },
 }

@@ -1,19 +1,16 @@
 -- The word ahead: its number, and that a load goes on from it as from the text.
-use Rattle.std.proofs.Common.{◌≡◌, ℕ, zero, suc, ◌+◌, ◌-◌, ◌<◌, ◌≤◌, Bool, true, false, cond, ◌&&◌, ltb, leb, List, [], ◌∷◌, length, drop, Some, None, Ok, Err, Option, Result, sym, refl, ap, ◌∙◌, subst, arith, drop-drop}
-use Rattle.std.proofs.lemmas.Bool.{cond-true, cond-false, le-leb, ltb-true, ltb-false, lt-ltb, cases_Bool, and_from}
-use Rattle.terms.specs.declared.items.Node.{Node}
-use Rattle.terms.specs.declared.items.Atom.{Atom}
+use Rattle.std.proofs.Common.{◌≡◌, ℕ, suc, ◌+◌, ◌-◌, ◌≤◌, Bool, true, false, cond, ltb, leb, List, [], ◌∷◌, length, drop, Ok, Err, sym, refl, ap, ◌∙◌, subst, arith, drop-drop}
+use Rattle.std.proofs.lemmas.Bool.{le-leb, ltb-true, ltb-false, and_from}
 use Rattle.terms.specs.Limits.{nesting_limit}
 use Rattle.stores.specs.Sentences.{Sentence}
 use Rattle.stores.specs.Refusals.{Limits}
 use Rattle.names.specs.declared.part.NoNumber.{NoNumber}
-use Rattle.names.specs.Numbers.{number, met, takes, names_after}
+use Rattle.names.specs.Numbers.{number, takes}
 use Rattle.names.specs.Tables.{node_or_none, atom_or_none}
 use Rattle.names.proofs.Laws.{number_most}
 use Rattle.words.specs.declared.faults.WordRefusal.{WordRefusal}
-use Rattle.words.specs.Words as words
 use Rattle.words.specs.Words.{Sign, Token, Reading, read, refused, gap, word_from, word_at}
-use Rattle.words.specs.Texts.{Words, end_at, fault_at, onward, continued, words_within, words_from, word_count, Reads}
+use Rattle.words.specs.Texts.{Words, end_at, fault_at, continued, words_within, words_from, word_count, Reads}
 use Rattle.words.proofs.Law.{Starts, gap_stops, Says, word_says}
 use Rattle.words.proofs.Exact as exact
 use Rattle.words.proofs.Exact.{spelt_some, goes_on, next_words}
@@ -21,7 +18,7 @@ use Rattle.grammar.specs.Trees as T
 use Rattle.grammar.specs.Parsing as parsing
 use Rattle.grammar.specs.Parsing.{Stream, word, over, broken, State, Step, go, ends, bad, step, so_far, depth, Outcome}
 use Rattle.grammar.specs.Loading.{load, checked, within_limits, kept_or, late_refusal, numbered}
-use Rattle.grammar.specs.Texts.{Names, sign_word, token_word, token_names, numbering, all_names, Loaded, loaded_by, rejected}
+use Rattle.grammar.specs.Texts.{Names, sign_word, token_word, token_names, numbering, all_names, loaded_by}
 use Rattle.lookahead.specs.declared.word.Word.{Word}
 use Rattle.lookahead.specs.declared.word.Word.TheVariants as w
 use Rattle.lookahead.specs.Ended.{none, nothing_behind}

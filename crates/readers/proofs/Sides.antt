@@ -1,15 +1,15 @@
 -- Right sides.
-use Rattle.std.proofs.Common.{◌≡◌, ℕ, suc, ◌+◌, ◌-◌, ◌<◌, ◌≤◌, Bool, true, false, cond, List, [], ◌∷◌, ◌++◌, length, None, sym, refl, ap, ◌∙◌, subst, append_assoc, append-nil, arith}
+use Rattle.std.proofs.Common.{◌≡◌, ℕ, Bool, true, false, List, ◌++◌, length, None, sym, refl, ap, ◌∙◌, append_assoc, append-nil, arith}
 use Rattle.terms.specs.declared.items.Item.{Item}
-use Rattle.terms.specs.declared.items.Quoting.TheVariants.{Plain as plain, Quoted as quoted}
-use Rattle.terms.specs.Terms.{Terms, flat, path, done, atom, node}
+use Rattle.terms.specs.declared.items.Quoting.TheVariants.{Plain as plain}
+use Rattle.terms.specs.Terms.{Terms, flat, path, done}
 use Rattle.stores.specs.Refusals.{Limits}
-use Rattle.grammar.specs.Parsing.{Stream, side, Phase, ready, closed, outside, Head, then}
+use Rattle.grammar.specs.Parsing.{Stream, side, ready, closed, outside, Head, then}
 use Rattle.grammar.specs.Loading.{load}
 use Rattle.grammar.specs.Texts.{Names}
 use Rattle.readers.specs.declared.word.Word.{Word}
 use Rattle.readers.specs.declared.word.Word.TheVariants as w
-use Rattle.readers.specs.Rest.{cons, gives, is_next, Through, ThroughPath, ThroughSide, ThroughNext}
+use Rattle.readers.specs.Rest.{cons, is_next, Through, ThroughPath, ThroughSide, ThroughNext}
 use Rattle.readers.proofs.Turns.{flat_then, range_then, nesting_then, with_names}
 
 pub no_terms : (r : Bool) (S : Stream) (F : Names) (out : List Item) → ThroughSide r S F out S F out

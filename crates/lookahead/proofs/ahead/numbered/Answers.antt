@@ -1,10 +1,9 @@
-use Rattle.std.proofs.Common.{◌≡◌, ℕ, sym, ap, ◌∙◌, subst, rules}
+use Rattle.std.proofs.Common.{ℕ, sym, ap, ◌∙◌, subst, rules}
 use Rattle.words.specs.declared.word.Word.{Word as TextWord}
 use Rattle.words.specs.Words.{token}
 use Rattle.names.proofs.Counts.{few_nodes, few_atoms}
 use Rattle.grammar.specs.Texts.{token_word}
 use Rattle.grammar.specs.Loading.{numbered}
-use Rattle.lookahead.specs.declared.word.Word.{Word}
 use Rattle.lookahead.specs.declared.word.Word.TheVariants as w
 use Rattle.lookahead.specs.Ahead.{Short, names_of, word_for}
 use Rattle.lookahead.proofs.Growth.{by_node, by_atom}

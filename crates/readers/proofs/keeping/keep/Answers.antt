@@ -1,4 +1,4 @@
-use Rattle.std.proofs.Common.{sym, refl, ap, ◌∙◌}
+use Rattle.std.proofs.Common.{refl, ap}
 use Rattle.readers.specs.Rest.{number, place}
 use Rattle.readers.proofs.LateRefusals.{kept_one, kept_none}
 use Rattle.readers.proofs.keeping.keep.Goals as goal

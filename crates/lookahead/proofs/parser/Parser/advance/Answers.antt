@@ -1,5 +1,4 @@
-use Rattle.std.proofs.Common.{◌≡◌, ℕ, true, List, sym, ap, ◌∙◌, subst}
-use Rattle.words.specs.Words.{token}
+use Rattle.std.proofs.Common.{◌≡◌, ℕ, true, List, sym, ap, subst}
 use Rattle.words.specs.Texts.{words_from}
 use Rattle.grammar.specs.Parsing.{over}
 use Rattle.grammar.specs.Texts.{numbering, all_names}
@@ -26,9 +25,9 @@ returns-in-Err c =
     let m = on_fault c.args.self.now.reader.text.now c.args.self.now.reader.at (names_of c.args.names.now) c.args.self.now.reader.within _ _ (over 0) _ c.in-Err.ensures.value in
     record { moves = m.0; grows = still _; size = m.1 }
 
-pub invariant-of-self : goal.invariant-of-self
-invariant-of-self c =
+pub invariant_of-self : goal.invariant_of-self
+invariant_of-self c =
     let same : c.next.new.self.text.now ≡ c.args.self.now.reader.text.now = ap (λ r. r.now) c.next.ensures.same in
     let m = last_word c.args.self.now.reader.text.now c.args.self.now.reader.at (names_of c.args.names.now) c.args.self.now.reader.within _ _ _ c.numbered-self.result c.in-Ok.ensures.value c.numbered-self.ensures.word in
     let F : List ℕ → Type 0 = λ x. nothing_behind c.numbered-self.result (words_from x c.next.new.self.at) ≡ true in
-    (subst F (sym same) m, tt)
+    record { ended = subst F (sym same) m }

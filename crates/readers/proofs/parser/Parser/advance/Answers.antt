@@ -1,5 +1,4 @@
-use Rattle.std.proofs.Common.{◌≡◌, ℕ, List, sym, ap, ◌∙◌, subst}
-use Rattle.words.specs.Words.{token}
+use Rattle.std.proofs.Common.{◌≡◌, ℕ, List, sym, ap, subst}
 use Rattle.words.specs.Texts.{words_from}
 use Rattle.grammar.specs.Parsing.{over}
 use Rattle.grammar.specs.Texts.{numbering, all_names}

@@ -1,22 +1,22 @@
 -- A question that is begun and granted all its steps at once.
-use Rattle.std.proofs.Common.{◌≡◌, ℕ, ◌≤◌, Bool, true, false, ◌&&◌, leb, List, [], ◌∷◌, length, Some, None, Option, sym, refl, ap, ◌∙◌, subst, arith}
+use Rattle.std.proofs.Common.{◌≡◌, ℕ, ◌≤◌, Bool, true, ◌&&◌, leb, List, [], ◌∷◌, length, Some, None, Option, ap, ◌∙◌, subst, arith}
 use lib.ListN.{length-map}
 use Rattle.std.proofs.lemmas.Bool.{and_from, le-leb}
 use Rattle.terms.specs.declared.items.Node.{Node}
 use Rattle.terms.specs.declared.items.Atom.{Atom}
 use Rattle.terms.specs.Limits.{path_limit}
 use Rattle.terms.specs.Maps.{Map, every, node_in_range, atom_in_range}
-use Rattle.rules.specs.Questions.{Question, own}
+use Rattle.rules.specs.Questions.{own}
 use Rattle.rules.specs.Evaluation.{outcome}
 use Rattle.rules.specs.Shown.{Shown, shown, reported}
 use Rattle.grammar.specs.Texts.{Names}
 use Rattle.evaluator.specs.Calls.{Act, begins, works, Holding, fits, shown_for, reported_for, begin_refused, unless_refused, passed, held_from, held}
 use Rattle.evaluator.specs.Holds.{question_in}
 use Rattle.evaluator.specs.Promise.{ByTheRules}
-use Rattle.questions.specs.Questions.{Asks, IsReadRightly}
+use Rattle.questions.specs.Questions.{IsReadRightly}
 use Rattle.questions.specs.Lines.{asks, atom_of, read_line}
-use Rattle.lines.specs.Bytes.{Line, shown_line}
-use Rattle.answers.specs.Answers.{grant, granted, QuestionByTheRules, AnsweredByTheRules}
+use Rattle.lines.specs.Bytes.{shown_line}
+use Rattle.answers.specs.Answers.{grant, granted, QuestionByTheRules}
 
 -- what a question needs to be begun
 pub numbers_fit : (n : Node) (p : List Atom) → node_in_range n ≡ true → every atom_in_range p ≡ true → length p ≤ path_limit → fits n p ≡ true

@@ -1,5 +1,5 @@
 -- Input, line by line.
-use Rattle.std.specs.Prelude.{◌≡◌, ℕ, ◌+◌, Bool, cond, not, List, ◌++◌, length, take, drop, Some, None, vec_items, Option, ◌==◌, nat_lt}
+use Rattle.std.specs.Prelude.{◌≡◌, ℕ, ◌+◌, Bool, cond, not, List, length, take, drop, Some, None, vec_items, Option, ◌==◌, nat_lt}
 use Rattle.std.specs.List.{prefix_len}
 use Rattle.grammar.specs.Texts.{Names}
 use Rattle.questions.specs.Lines.{read_line}

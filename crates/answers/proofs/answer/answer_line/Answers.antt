@@ -1,4 +1,4 @@
-use Rattle.std.proofs.Common.{◌≡◌, Some, Ok, Option, sym, ap, ◌∙◌}
+use Rattle.std.proofs.Common.{Ok, Option, sym, ap, ◌∙◌}
 use Rattle.path.specs.Atoms.{atoms_of}
 use Rattle.questions.specs.declared.asked.Asked.{Asked}
 use Rattle.questions.specs.Lines.{names_of, line_of}

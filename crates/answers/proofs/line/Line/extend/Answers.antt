@@ -1,4 +1,4 @@
-use Rattle.std.proofs.Common.{◌≡◌, ◌-◌, ◌≤◌, min, ◌++◌, length, take, vec_items, vec_len, ap, ◌∙◌, arith, length-take}
+use Rattle.std.proofs.Common.{◌≡◌, ◌-◌, min, length, vec_items, ◌∙◌, arith, length-take}
 use Rattle.std.proofs.lemmas.Bool.{cond-true}
 use Rattle.answers.proofs.Kept.{extended}
 use Rattle.answers.proofs.line.Line.extend.Goals as goal

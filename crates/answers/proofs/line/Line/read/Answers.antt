@@ -1,4 +1,4 @@
-use Rattle.std.proofs.Common.{◌≡◌, ℕ, ◌≤◌, List, ◌++◌, length, take, vec_items, sym, ap, ◌∙◌, arith}
+use Rattle.std.proofs.Common.{ℕ, List, ◌++◌, take, vec_items, ap, ◌∙◌, arith}
 use Rattle.answers.specs.Input.{kept_bytes}
 use Rattle.answers.proofs.Kept.{part_to_feed, past_block, block_ends, block_goes_on}
 use Rattle.answers.proofs.line.Line.read.Goals as goal

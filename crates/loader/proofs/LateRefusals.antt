@@ -1,14 +1,12 @@
 -- What a keeper refuses of the sentences that the grammar lets pass.
-use Rattle.std.proofs.Common.{◌≡◌, ℕ, Bool, true, false, cond, ltb, leb, List, [], ◌∷◌, ◌++◌, length, is_some, Some, None, Ok, Err, Option, Result, sym, refl, ap, ◌∙◌, subst, arith}
+use Rattle.std.proofs.Common.{◌≡◌, Bool, true, false, cond, ltb, leb, List, [], ◌∷◌, ◌++◌, length, is_some, Some, None, Ok, Err, Option, sym, refl, ap, ◌∙◌, arith}
 use Rattle.std.proofs.lemmas.Bool.{cond-true, and_from}
-use Rattle.terms.specs.declared.items.Item.{Item}
-use Rattle.terms.specs.Limits.{path_limit, item_limit, nesting_limit}
-use Rattle.terms.specs.Terms.{Terms, flat, nesting}
-use Rattle.terms.specs.Maps.{every, node_in_range, atom_in_range, item_in_range}
+use Rattle.terms.specs.Limits.{path_limit, item_limit}
+use Rattle.terms.specs.Maps.{every, item_in_range}
 use Rattle.stores.specs.declared.refusals.Refusal.{Refusal}
 use Rattle.stores.specs.declared.refusals.Refusal.TheVariants as refused
 use Rattle.stores.specs.Sentences.{Sentence, map_of}
-use Rattle.stores.specs.Refusals.{Limits, number, over, unfit, or_else, refusal, answer, kept_after, well_formed, paired, shallow, PairedItemsAreTermLists, ShallowItemsNestFourDeep}
+use Rattle.stores.specs.Refusals.{Limits, number, over, or_else, refusal, answer, kept_after, well_formed, paired, shallow}
 use Rattle.stores.proofs.Closes.{paired_items_are_term_lists, shallow_items_nest_four_deep}
 use Rattle.grammar.specs.Loading.{late_refusal}
 use Rattle.loader.specs.Equations.{Spelt}

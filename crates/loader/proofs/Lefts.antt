@@ -1,20 +1,17 @@
 -- One word of a left path.
-use Rattle.std.proofs.Common.{◌≡◌, ℕ, suc, ◌<◌, ◌≤◌, Bool, true, false, List, [], ◌∷◌, ◌++◌, sym, refl, ap, ◌∙◌, arith}
+use Rattle.std.proofs.Common.{◌≡◌, ℕ, suc, ◌<◌, ◌≤◌, true, false, List, [], ◌∷◌, ◌++◌, sym, refl, ap, ◌∙◌, arith}
 use Rattle.std.proofs.lemmas.Bool.{and_parts, and_from, lt-ltb, le-ltb}
 use Rattle.terms.specs.declared.items.Atom.{Atom}
 use Rattle.terms.specs.Maps.{every, atom_in_range}
 use Rattle.stores.specs.Refusals.{Limits}
 use Rattle.grammar.specs.Trees as T
-use Rattle.grammar.specs.Parsing.{Stream, State, body, lefting, lefted, begun, Front, Head, refused}
+use Rattle.grammar.specs.Parsing.{Stream, body, lefting, lefted, begun, Front, Head, refused}
 use Rattle.grammar.specs.Loading.{load}
-use Rattle.grammar.specs.Texts.{Names}
 use Rattle.lookahead.specs.declared.word.Word.{Word}
 use Rattle.lookahead.specs.declared.word.Word.TheVariants as w
-use Rattle.lookahead.specs.Ahead.{cons, size, gives, Moves, fault_number}
+use Rattle.lookahead.specs.Ahead.{cons, size, fault_number}
 use Rattle.loader.specs.Readings.{is_less_lem, is_greater, is_equals_lem}
-use Rattle.loader.specs.Equations.{ThroughLeft}
 use Rattle.loader.proofs.Runs
-use Rattle.loader.proofs.Turns
 
 pub only_equals : (k : Word) → is_equals_lem k ≡ true → k ≡ w.Equals
 only_equals (w.Atom a) e = absurd (grind arith)

@@ -1,5 +1,5 @@
 -- The words between terms: those that begin and end sentences, equations and blocks.
-use Rattle.std.proofs.Common.{◌≡◌, ℕ, suc, ◌<◌, ◌≤◌, Bool, true, false, cond, List, [], ◌∷◌, ◌++◌, Some, None, Option, sym, refl, ap, ◌∙◌, arith}
+use Rattle.std.proofs.Common.{◌≡◌, ℕ, suc, ◌<◌, ◌≤◌, Bool, true, false, List, [], Some, None, Option, sym, refl, ap, ◌∙◌, arith}
 use Rattle.std.proofs.lemmas.Bool.{cond-true, cond-false, lt-ltb, le-ltb}
 use Rattle.terms.specs.declared.items.Node.{Node}
 use Rattle.terms.specs.declared.items.Atom.{Atom}
@@ -9,8 +9,8 @@ use Rattle.stores.specs.Sentences.{Sentence}
 use Rattle.stores.specs.Refusals.{Limits, number}
 use Rattle.grammar.specs.Trees as T
 use Rattle.grammar.specs.Trees.{Block}
-use Rattle.grammar.specs.Parsing.{Stream, word, State, between, naming, body, begun, side, ready, closed, outside, Front, Head, Step, go, ends, step, depth, so_far, whole, with_equation, said, atoms_of, next_left, Outcome, accepted, refused}
-use Rattle.grammar.specs.Loading.{load, checked, numbered, late_refusal, kept_or, within_limits}
+use Rattle.grammar.specs.Parsing.{Stream, word, State, between, naming, body, begun, side, ready, closed, outside, Front, Head, Step, ends, step, depth, so_far, whole, atoms_of, next_left, accepted, refused}
+use Rattle.grammar.specs.Loading.{load, checked, numbered, late_refusal, kept_or}
 use Rattle.lookahead.specs.declared.word.Word.{Word}
 use Rattle.lookahead.specs.declared.word.Word.TheVariants as w
 use Rattle.lookahead.specs.Ahead.{cons, size, fault_number}

@@ -1,5 +1,5 @@
 -- One word of a load.
-use Rattle.std.proofs.Common.{◌≡◌, ℕ, suc, ◌+◌, ◌<◌, ◌≤◌, Bool, true, false, cond, ltb, List, [], ◌∷◌, ◌++◌, Some, None, Option, sym, refl, ap, ◌∙◌, subst, arith}
+use Rattle.std.proofs.Common.{◌≡◌, ℕ, suc, ◌<◌, ◌≤◌, Bool, true, false, Some, None, Option, sym, refl, ap, ◌∙◌, arith}
 use Rattle.std.proofs.lemmas.Bool.{cond-true, cond-false, lt-ltb, le-ltb}
 use Rattle.terms.specs.declared.items.Node.{Node}
 use Rattle.terms.specs.declared.items.Atom.{Atom}
@@ -8,7 +8,7 @@ use Rattle.terms.specs.declared.items.Quoting.TheVariants.{Plain as plain, Quote
 use Rattle.terms.specs.Terms.{Terms, done, atom, node, path}
 use Rattle.stores.specs.Refusals.{Limits}
 use Rattle.grammar.specs.Trees as T
-use Rattle.grammar.specs.Parsing.{Stream, word, over, broken, State, Step, go, ends, bad, step, depth, so_far, side, Phase, ready, noded, closed, coloned, quoting, quoted_node, unquoting, Frames, outside, within, Head, then, open_paths, Outcome, refused}
+use Rattle.grammar.specs.Parsing.{Stream, word, over, broken, State, Step, go, step, depth, so_far, side, ready, noded, closed, coloned, quoting, quoted_node, unquoting, Frames, outside, within, Head, then, open_paths, refused}
 use Rattle.grammar.specs.Loading.{load, checked, numbered}
 use Rattle.lookahead.specs.declared.word.Word.{Word}
 use Rattle.lookahead.specs.declared.word.Word.TheVariants as w

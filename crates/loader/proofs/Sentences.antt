@@ -1,5 +1,5 @@
 -- Equations, sentences and blocks.
-use Rattle.std.proofs.Common.{◌≡◌, ℕ, suc, ◌+◌, ◌-◌, ◌<◌, ◌≤◌, Bool, true, false, List, [], ◌∷◌, ◌++◌, length, take, drop, Some, None, Ok, Err, Option, Result, sym, refl, ap, ◌∙◌, subst, append_assoc, append-nil, arith, length-append}
+use Rattle.std.proofs.Common.{◌≡◌, ℕ, suc, ◌+◌, ◌-◌, ◌<◌, ◌≤◌, Bool, true, false, List, [], ◌∷◌, ◌++◌, length, take, drop, Some, None, Ok, Err, Option, Result, sym, refl, ap, ◌∙◌, subst, append-nil, arith, length-append}
 use Rattle.std.proofs.lemmas.Bool.{and_parts, and_from}
 use Rattle.terms.specs.declared.items.Node.{Node}
 use Rattle.terms.specs.declared.items.Atom.{Atom}
@@ -32,7 +32,7 @@ use Rattle.faults.specs.Grammar.{number, place}
 use Rattle.lookahead.specs.Ahead.{cons, gives, Moves, fault_number}
 use Rattle.loader.specs.Readings.{starts, ThroughSide, ThroughNext, GoesSide, Stops}
 use Rattle.loader.specs.Equations.{ThroughLeft, Spelt, collected}
-use Rattle.loader.specs.Blocks.{IsFront, head, state_at, at_side, Reached, Reaches, Goes_on, ThroughBlock}
+use Rattle.loader.specs.Blocks.{IsFront, head, state_at, at_side, Reaches, GoesOn, ThroughBlock}
 use Rattle.loader.proofs.Turns.{with_names, by_number}
 use Rattle.loader.proofs.Atoms.{atoms_in_items}
 use Rattle.loader.proofs.Marks
@@ -198,7 +198,7 @@ module _ (S R : Stream) (F F₁ : Names) (s m q : ℕ) (k : Word) (out₀ out : 
 
 -- ---- one part of a block after the other
 module _ (l : Limits) (n : Node) (σ τ : Front → State) (S S₁ : Stream) (F F₁ : Names) (e : (f : Front) → gives l S F (σ f) ≡ gives l S₁ F₁ (τ f)) where
-  pub from_state : (kept : List Sentence) (r : Result (Option Due) GrammarFault) (S₂ : Stream) (F₂ : Names) (left : List Atom) (kept' : List Sentence) → Goes_on l n τ S₁ F₁ kept r S₂ F₂ left kept' → Goes_on l n σ S F kept r S₂ F₂ left kept'
+  pub from_state : (kept : List Sentence) (r : Result (Option Due) GrammarFault) (S₂ : Stream) (F₂ : Names) (left : List Atom) (kept' : List Sentence) → GoesOn l n τ S₁ F₁ kept r S₂ F₂ left kept' → GoesOn l n σ S F kept r S₂ F₂ left kept'
   from_state kept (Ok due) S₂ F₂ left kept' y = record { in_range = y.in_range; comes = λ f i. let z = y.comes f i in record { front = z.front; is = z.is; comes = e f ∙ z.comes } }
   from_state kept (Err v) S₂ F₂ left kept' y = λ f i. e f ∙ y f i
 

@@ -1,15 +1,15 @@
 -- Right sides.
-use Rattle.std.proofs.Common.{◌≡◌, ℕ, suc, ◌+◌, ◌-◌, ◌<◌, ◌≤◌, Bool, true, false, cond, List, [], ◌∷◌, ◌++◌, length, None, sym, refl, ap, ◌∙◌, subst, append_assoc, append-nil, arith}
+use Rattle.std.proofs.Common.{◌≡◌, ℕ, Bool, true, false, List, ◌++◌, length, None, sym, refl, ap, ◌∙◌, append_assoc, append-nil, arith}
 use Rattle.terms.specs.declared.items.Item.{Item}
-use Rattle.terms.specs.declared.items.Quoting.TheVariants.{Plain as plain, Quoted as quoted}
-use Rattle.terms.specs.Terms.{Terms, flat, path, done, atom, node}
+use Rattle.terms.specs.declared.items.Quoting.TheVariants.{Plain as plain}
+use Rattle.terms.specs.Terms.{Terms, flat, path, done}
 use Rattle.stores.specs.Refusals.{Limits}
-use Rattle.grammar.specs.Parsing.{Stream, side, Phase, ready, closed, outside, Head, then}
+use Rattle.grammar.specs.Parsing.{Stream, side, ready, closed, outside, Head, then}
 use Rattle.grammar.specs.Loading.{load}
 use Rattle.grammar.specs.Texts.{Names}
 use Rattle.lookahead.specs.declared.word.Word.{Word}
 use Rattle.lookahead.specs.declared.word.Word.TheVariants as w
-use Rattle.lookahead.specs.Ahead.{cons, gives}
+use Rattle.lookahead.specs.Ahead.{cons}
 use Rattle.loader.specs.Readings.{is_next, Through, ThroughPath, ThroughSide, ThroughNext}
 use Rattle.loader.proofs.Turns.{flat_then, range_then, nesting_then, with_names}
 

@@ -1,18 +1,16 @@
 -- Whole texts.
-use Rattle.std.proofs.Common.{◌≡◌, ℕ, ◌<◌, ◌≤◌, Bool, true, false, cond, ltb, List, [], ◌∷◌, ◌++◌, length, take, is_ok, Ok, Err, Result, sym, refl, ap, ◌∙◌, subst, append-nil, arith}
+use Rattle.std.proofs.Common.{◌≡◌, ℕ, ◌<◌, ◌≤◌, Bool, true, false, ltb, List, [], length, take, is_ok, Ok, Err, sym, refl, ap, ◌∙◌, arith}
 use lib.Seq.{take-length}
 use Rattle.std.proofs.lemmas.List.{take-append-le}
 use Rattle.std.proofs.lemmas.Bool.{cond-true, cond-false, ltb-true, ltb-false, lt-ltb, le-ltb}
 use Rattle.terms.specs.declared.items.Node.{Node}
 use Rattle.stores.specs.Sentences.{Sentence}
 use Rattle.stores.specs.Refusals.{Limits}
-use Rattle.names.specs.declared.tables.Names.{Names as NameTables}
-use Rattle.words.specs.Texts.{Words, end_at, fault_at, words_of, words_from}
+use Rattle.words.specs.Texts.{Words, end_at, fault_at, words_of}
 use Rattle.words.proofs.Exact.{words_are_exact}
 use Rattle.grammar.specs.Trees.{Block, sentences}
-use Rattle.grammar.specs.Theorems.{Spells, Fits, Misplaced, FourIsFirst}
+use Rattle.grammar.specs.Theorems.{Spells, Fits, FourIsFirst}
 use Rattle.grammar.specs.Parsing.{Stream, between}
-use Rattle.grammar.specs.Naming.{AsMet}
 use Rattle.grammar.specs.Texts.{Names, numbering, all_names, text_limit, load_text, Loaded, rejected}
 use Rattle.grammar.specs.Texts as texts
 use Rattle.grammar.proofs.Complete.{single}
@@ -23,15 +21,13 @@ use Rattle.lookahead.specs.declared.word.Word.{Word}
 use Rattle.lookahead.specs.declared.word.Word.TheVariants as w
 use Rattle.faults.specs.declared.kinds.GrammarFault.{GrammarFault}
 use Rattle.faults.specs.declared.kinds.LoadFault.{LoadFault}
-use Rattle.faults.specs.declared.kinds.LoadFault.TheVariants.{TooLong, Grammar}
 use Rattle.lookahead.specs.declared.parser.Parser.{Parser}
 use Rattle.lookahead.specs.Ended.{none, nothing_behind}
 use Rattle.lookahead.specs.Ahead.{Longer, Grown, cons, size, final, gives, behind_ahead, fault_number}
 use Rattle.faults.specs.Grammar as rest
-use Rattle.loader.specs.Blocks.{ThroughBlock, GoesText}
+use Rattle.loader.specs.Blocks.{ThroughBlock}
 use Rattle.faults.specs.Loads.{number, place}
-use Rattle.loader.specs.Loads.{Loads, KeepsTheTheorySpelt}
-use Rattle.lookahead.proofs.Growth
+use Rattle.loader.specs.Loads.{KeepsTheTheorySpelt}
 use Rattle.loader.proofs.Turns.{with_names, by_number}
 use Rattle.lookahead.proofs.Numbering.{size_words}
 use Rattle.loader.proofs.Marks

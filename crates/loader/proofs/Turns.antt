@@ -1,5 +1,5 @@
 -- What readers come to, put together.
-use Rattle.std.proofs.Common.{◌≡◌, ℕ, suc, ◌+◌, ◌-◌, ◌<◌, ◌≤◌, Bool, true, false, cond, List, [], ◌∷◌, ◌++◌, length, Some, None, Ok, Err, Option, Result, sym, refl, ap, ◌∙◌, subst, append_assoc, append-nil, arith}
+use Rattle.std.proofs.Common.{◌≡◌, ℕ, suc, ◌+◌, ◌-◌, ◌≤◌, Bool, true, List, [], ◌∷◌, ◌++◌, Some, None, Ok, Err, Option, Result, sym, refl, ap, ◌∙◌, append_assoc, append-nil, arith}
 use Rattle.terms.specs.declared.items.Node.{Node}
 use Rattle.terms.specs.declared.items.Item.{Item}
 use Rattle.terms.specs.declared.items.Item.TheVariants.{Atom as an_atom, Node as a-node, Open as opening, Close as close}
@@ -9,7 +9,7 @@ use Rattle.std.proofs.lemmas.Bool.{and_parts, and_from}
 use Rattle.terms.specs.Terms.{Terms, flat, nesting, path, done, atom, node}
 use Rattle.terms.specs.Maps.{every, item_in_range}
 use Rattle.stores.specs.Refusals.{Limits}
-use Rattle.grammar.specs.Parsing.{Stream, State, side, Phase, ready, closed, coloned, quoting, unquoting, Frames, outside, within, Head, then, open_paths, Outcome, refused}
+use Rattle.grammar.specs.Parsing.{Stream, State, side, Phase, ready, coloned, quoting, Frames, within, Head, then, open_paths, Outcome, refused}
 use Rattle.grammar.specs.Loading.{load}
 use Rattle.grammar.specs.Texts.{Names, loaded_by, rejected}
 use Rattle.lookahead.specs.declared.word.Word.{Word}

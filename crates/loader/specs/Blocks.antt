@@ -1,5 +1,5 @@
 -- What the readers of blocks come to.
-use Rattle.std.specs.Prelude.{◌≡◌, ℕ, Bool, true, false, List, [], Some, None, Ok, Err, Option, Result}
+use Rattle.std.specs.Prelude.{◌≡◌, ℕ, Bool, true, List, [], Some, None, Ok, Err, Option, Result}
 use Rattle.terms.specs.declared.items.Node.{Node}
 use Rattle.terms.specs.declared.items.Atom.{Atom}
 use Rattle.terms.specs.Terms.{done}
@@ -46,9 +46,9 @@ pub record Reaches (l : Limits) (n : Node) (S : Stream) (F : Names) (σ : Front 
   pub in_range : every atom_in_range left ≡ true
   pub comes : (f : Front) → IsFront n kept f → Reached l n S F (σ f) due S' F' left kept'
 
-abbrev pub Goes_on : Limits → Node → (Front → State) → Stream → Names → List Sentence → Result (Option Due) GrammarFault → Stream → Names → List Atom → List Sentence → Type 0
-Goes_on l n σ S F kept (Ok due) S' F' left kept' = Reaches l n S F σ kept due S' F' left kept'
-Goes_on l n σ S F kept (Err e) S' F' left kept' = (f : Front) → IsFront n kept f → gives l S F (σ f) ≡ rejected (number e) (place e)
+abbrev pub GoesOn : Limits → Node → (Front → State) → Stream → Names → List Sentence → Result (Option Due) GrammarFault → Stream → Names → List Atom → List Sentence → Type 0
+GoesOn l n σ S F kept (Ok due) S' F' left kept' = Reaches l n S F σ kept due S' F' left kept'
+GoesOn l n σ S F kept (Err e) S' F' left kept' = (f : Front) → IsFront n kept f → gives l S F (σ f) ≡ rejected (number e) (place e)
 
 -- A block is read.
 pub record ThroughBlock (l : Limits) (S : Stream) (F : Names) (bs : List Block) (S' : Stream) (F' : Names) (kept : List Sentence) : Type 0 where
@@ -72,7 +72,7 @@ Leaves (Err e) ns ns' kept = (kept ≡ []) × (ns' ≡ ns)
 
 -- The same of a parser and the names, before and after.
 abbrev pub ReadsOn : Limits → Node → (Front → State) → NameTables → Parser → List Sentence → Result (Option Due) GrammarFault → NameTables → Parser → List Atom → List Sentence → Type 0
-ReadsOn l n σ t p kept r t' p' left kept' = Goes_on l n σ (rest (names_of t) p) (final (names_of t) p) kept r (rest (names_of t') p') (final (names_of t') p') left kept'
+ReadsOn l n σ t p kept r t' p' left kept' = GoesOn l n σ (rest (names_of t) p) (final (names_of t) p) kept r (rest (names_of t') p') (final (names_of t') p') left kept'
 
 abbrev pub ReadsBlock : Limits → NameTables → Parser → List Sentence → Result (Unit {0}) GrammarFault → NameTables → Parser → List Sentence → Type 0
 ReadsBlock l t p kept r t' p' kept' = GoesBlock l (rest (names_of t) p) (final (names_of t) p) kept r (rest (names_of t') p') (final (names_of t') p') kept'

@@ -67,7 +67,7 @@ pub(crate) fn no_number(place: usize) -> GrammarFault
 }
 
 // A path from its < on, the node and the quote mark before it being read.
-#[cycle(after_node_after_quote_after_quoted_node_named_path_path_term_terms_unopened)]
+#[cycle(term_readers)]
 fn path(
     p: &mut Parser<'_>,
     names: &mut Names,
@@ -115,7 +115,7 @@ fn end_quote(p: &mut Parser<'_>, names: &mut Names) -> Result<(), GrammarFault>
     Ok(())
 }
 
-#[cycle(after_node_after_quote_after_quoted_node_named_path_path_term_terms_unopened)]
+#[cycle(term_readers)]
 fn terms(
     p: &mut Parser<'_>,
     names: &mut Names,
@@ -137,7 +137,7 @@ fn terms(
     Ok(())
 }
 
-#[cycle(after_node_after_quote_after_quoted_node_named_path_path_term_terms_unopened)]
+#[cycle(term_readers)]
 fn term(
     p: &mut Parser<'_>,
     names: &mut Names,
@@ -161,7 +161,7 @@ fn term(
 }
 
 // A term that does not begin with <.
-#[cycle(after_node_after_quote_after_quoted_node_named_path_path_term_terms_unopened)]
+#[cycle(term_readers)]
 fn unopened(
     p: &mut Parser<'_>,
     names: &mut Names,
@@ -201,7 +201,7 @@ fn unopened(
     }
 }
 
-#[cycle(after_node_after_quote_after_quoted_node_named_path_path_term_terms_unopened)]
+#[cycle(term_readers)]
 fn after_node(
     p: &mut Parser<'_>,
     names: &mut Names,
@@ -227,7 +227,7 @@ fn after_node(
     }
 }
 
-#[cycle(after_node_after_quote_after_quoted_node_named_path_path_term_terms_unopened)]
+#[cycle(term_readers)]
 fn after_quote(
     p: &mut Parser<'_>,
     names: &mut Names,
@@ -255,7 +255,7 @@ fn after_quote(
     }
 }
 
-#[cycle(after_node_after_quote_after_quoted_node_named_path_path_term_terms_unopened)]
+#[cycle(term_readers)]
 fn after_quoted_node(
     p: &mut Parser<'_>,
     names: &mut Names,
@@ -285,7 +285,7 @@ fn after_quoted_node(
 }
 
 // The path behind a node and its colon.
-#[cycle(after_node_after_quote_after_quoted_node_named_path_path_term_terms_unopened)]
+#[cycle(term_readers)]
 fn named_path(
     p: &mut Parser<'_>,
     names: &mut Names,

@@ -13,10 +13,10 @@ returns-in-Err g c = record {
       (c.in-Err.refusal, (k.0, (ap number c.from.ensures, (ap place c.from.ensures, k.1))));
 }
 
-pub invariant-of-from : goal.invariant-of-from
-invariant-of-from g c =
+pub invariant_of-from : goal.invariant_of-from
+invariant_of-from g c =
     let l = g.K.Keeper.limits in
     let kept = g.K.Keeper.kept c.args.keeper.now in
     let x = sentence c.args.node c.args.left.now c.args.right.now in
     let k = kept_none l kept (g.K.Keeper.kept c.add.new.self) x c.in-Err.refusal _ refl c.in-Err.ensures.gives c.in-Err.ensures.keeps c.requires in
-    (late_number l kept x c.in-Err.refusal k.0, tt)
+    record { late = late_number l kept x c.in-Err.refusal k.0 }

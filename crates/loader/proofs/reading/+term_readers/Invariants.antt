@@ -2,22 +2,22 @@ use Rattle.std.proofs.Common.{◌≡◌, ◌+◌, ◌*◌, ◌≤◌, vec_items,
 use Rattle.grammar.specs.Parsing.{ready}
 use Rattle.lookahead.specs.Ahead.{Grown, names_of, rest, final}
 use Rattle.loader.specs.Readings.{words_left, Through}
-use Rattle.loader.proofs.reading.+after_node_after_quote_after_quoted_node_named_path_path_term_terms_unopened.Given as goal
+use Rattle.loader.proofs.reading.+term_readers.Given as goal
 
 abbrev pub decreases-path : goal.decreases-path
 decreases-path l = 8 * l.left
 
-abbrev pub decreases-named-path : goal.decreases-named-path
-decreases-named-path l = 8 * l.left + 1
+abbrev pub decreases-named_path : goal.decreases-named_path
+decreases-named_path l = 8 * l.left + 1
 
-abbrev pub decreases-after-quoted-node : goal.decreases-after-quoted-node
-decreases-after-quoted-node l = 8 * l.left + 2
+abbrev pub decreases-after_quoted_node : goal.decreases-after_quoted_node
+decreases-after_quoted_node l = 8 * l.left + 2
 
-abbrev pub decreases-after-quote : goal.decreases-after-quote
-decreases-after-quote l = 8 * l.left + 3
+abbrev pub decreases-after_quote : goal.decreases-after_quote
+decreases-after_quote l = 8 * l.left + 3
 
-abbrev pub decreases-after-node : goal.decreases-after-node
-decreases-after-node l = 8 * l.left + 2
+abbrev pub decreases-after_node : goal.decreases-after_node
+decreases-after_node l = 8 * l.left + 2
 
 abbrev pub decreases-unopened : goal.decreases-unopened
 decreases-unopened l = 8 * l.left + 4

@@ -1,4 +1,4 @@
-use Rattle.std.proofs.Common.{sym, refl, ap, ◌∙◌, arith, rules}
+use Rattle.std.proofs.Common.{refl, ap, arith}
 use Rattle.std.proofs.lemmas.Result.{err_from_is_err_and}
 use Rattle.std.proofs.lemmas.Bool.{lt-ltb}
 use Rattle.grammar.specs.Parsing.{body}
@@ -11,14 +11,14 @@ use Rattle.loader.proofs.loader.Loader.block.Goals as goal
 
 pub returns-then-node-ge-NODES : goal.returns-then-node-ge-NODES
 returns-then-node-ge-NODES g c = record {
-  goes = λ bs q. Sentences.unnumbered g.K.Keeper.limits c.args.node _ _ _ _ c.requires.starts c.if-node-ge-NODES.true c.no-number.result (ap number c.no-number.ensures) (ap place c.no-number.ensures) bs;
+  goes = λ bs q. Sentences.unnumbered g.K.Keeper.limits c.args.node _ _ _ _ c.requires.starts c.if-node-ge-NODES.true c.no_number.result (ap number c.no_number.ensures) (ap place c.no_number.ensures) bs;
   grows = Growth.still _;
   less = λ e. absurd (grind arith);
 }
 
-pub returns-in-default : goal.returns-in-default
-returns-in-default g c = record {
-  goes = λ bs q. Sentences.no_colon g.K.Keeper.limits c.args.node _ _ _ _ c.requires.starts c.if-node-ge-NODES.false _ _ _ _ c.advance.ensures.moves c.in-default.not-Colon c.misplaced.result c.misplaced.ensures.number c.misplaced.ensures.place bs;
+pub returns-in_default : goal.returns-in_default
+returns-in_default g c = record {
+  goes = λ bs q. Sentences.no_colon g.K.Keeper.limits c.args.node _ _ _ _ c.requires.starts c.if-node-ge-NODES.false _ _ _ _ c.advance.ensures.moves c.in_default.not-Colon c.misplaced.result c.misplaced.ensures.number c.misplaced.ensures.place bs;
   grows = c.advance.ensures.grows;
   less = λ e. absurd (grind arith);
 }
@@ -26,26 +26,26 @@ returns-in-default g c = record {
 pub loop-next-init : goal.loop-next-init
 loop-next-init g c = (Sentences.nothing_yet g.K.Keeper.limits c.args.node _ _ _ _ c.clear.ensures.items, Growth.still _, omega arith)
 
-pub next-part-requires : goal.next-part-requires
-next-part-requires g c =
+pub next_part-requires : goal.next_part-requires
+next_part-requires g c =
     let z₁ = Marks.one_word c.args.p.now.place c.args.p.now.word (w.Node c.args.node) _ _ c.requires.starts refl c.advance.ensures.size in
     let z₂ = Marks.one_word c.advance.new.self.place c.advance.new.self.word w.Colon _ _ c.in-Colon.is refl c.advance-2.ensures.size in
     record { few = omega (arith, c.loop-next.invariant.2); named = lt-ltb c.args.node.0 1024 c.if-node-ge-NODES.false; left = c.loop-next.invariant.0.in_range }
 
 pub loop-next-smaller : goal.loop-next-smaller
-loop-next-smaller g c = c.in-ok-next.ensures.less refl
+loop-next-smaller g c = c.in_ok-next.ensures.less refl
 
 pub loop-next-preserved : goal.loop-next-preserved
 loop-next-preserved g c =
-    let told = c.in-ok-next.ensures in
+    let told = c.in_ok-next.ensures in
     (Sentences.part_read g.K.Keeper.limits c.args.node body _ _ _ _ _ _ _ _ c.in-Some.due c.in-Some.is c.loop-next.invariant.0 _ _ _ _ _ told.goes, Growth.on _ _ _ c.loop-next.invariant.1 told.grows, omega (arith, told.less refl, c.loop-next.invariant.2))
 
-pub returns-in-err-next : goal.returns-in-err-next
-returns-in-err-next g c =
-    let p = err_from_is_err_and c.from-residual.result c.from-residual.ensures.1 in
-    let told = c.in-err-next.ensures in
+pub returns-in_err-next : goal.returns-in_err-next
+returns-in_err-next g c =
+    let p = err_from_is_err_and c.from_residual.result c.from_residual.ensures.1 in
+    let told = c.in_err-next.ensures in
     record {
-      goes = rw (p.1, p.2) (Sentences.block_refused g.K.Keeper.limits c.args.node _ _ _ _ c.requires.starts c.if-node-ge-NODES.false _ _ _ _ c.advance.ensures.moves c.in-Colon.is _ _ c.advance-2.ensures.moves _ c.in-err-next.field-0.0 (Sentences.part_refused g.K.Keeper.limits c.args.node body _ _ _ _ _ _ _ _ c.in-Some.due c.in-Some.is c.loop-next.invariant.0 c.in-err-next.field-0.0 told.goes));
+      goes = rw (p.1, p.2) (Sentences.block_refused g.K.Keeper.limits c.args.node _ _ _ _ c.requires.starts c.if-node-ge-NODES.false _ _ _ _ c.advance.ensures.moves c.in-Colon.is _ _ c.advance-2.ensures.moves _ c.in_err-next.field-0.0 (Sentences.part_refused g.K.Keeper.limits c.args.node body _ _ _ _ _ _ _ _ c.in-Some.due c.in-Some.is c.loop-next.invariant.0 c.in_err-next.field-0.0 told.goes));
       grows = Growth.on _ _ _ (Growth.on _ _ _ (Growth.on _ _ _ c.advance.ensures.grows c.advance-2.ensures.grows) c.loop-next.invariant.1) told.grows;
       less = rw p.1 (λ q. absurd (grind arith));
     }
@@ -55,7 +55,7 @@ returns g c =
     let z₁ = Marks.one_word c.args.p.now.place c.args.p.now.word (w.Node c.args.node) _ _ c.requires.starts refl c.advance.ensures.size in
     let z₂ = Marks.one_word c.advance.new.self.place c.advance.new.self.word w.Colon _ _ c.in-Colon.is refl c.advance-2.ensures.size in
     record {
-      goes = Sentences.block_read g.K.Keeper.limits c.args.node _ _ _ _ c.requires.starts c.if-node-ge-NODES.false _ _ _ _ c.advance.ensures.moves c.in-Colon.is _ _ c.advance-2.ensures.moves _ _ c.in-default-next.is _ _ _ _ c.loop-next.invariant.0;
+      goes = Sentences.block_read g.K.Keeper.limits c.args.node _ _ _ _ c.requires.starts c.if-node-ge-NODES.false _ _ _ _ c.advance.ensures.moves c.in-Colon.is _ _ c.advance-2.ensures.moves _ _ c.in_default-next.is _ _ _ _ c.loop-next.invariant.0;
       grows = Growth.on _ _ _ (Growth.on _ _ _ c.advance.ensures.grows c.advance-2.ensures.grows) c.loop-next.invariant.1;
       less = λ e. omega (arith, c.loop-next.invariant.2);
     }

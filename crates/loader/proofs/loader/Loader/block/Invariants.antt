@@ -1,4 +1,4 @@
-use Rattle.std.proofs.Common.{◌≤◌, List, vec_items}
+use Rattle.std.proofs.Common.{◌≤◌, vec_items}
 use Rattle.grammar.specs.Parsing.{body}
 use Rattle.lookahead.specs.Ahead.{Grown, names_of, rest, final}
 use Rattle.loader.specs.Readings.{words_left}

@@ -13,9 +13,9 @@ returns-in-Stop c = record {
   less = λ e. omega (arith, Marks.one_word c.args.p.now.place c.args.p.now.word w.Stop _ _ c.in-Stop.is refl c.advance.ensures.size);
 }
 
-pub returns-in-default : goal.returns-in-default
-returns-in-default c = record {
-  goes = λ l n kept f i. by_number l _ _ _ _ _ c.misplaced.result (Marks.no_equation l f _ _ _ c.in-default.not-Less c.in-default.not-Stop) c.misplaced.ensures.number c.misplaced.ensures.place;
+pub returns-in_default : goal.returns-in_default
+returns-in_default c = record {
+  goes = λ l n kept f i. by_number l _ _ _ _ _ c.misplaced.result (Marks.no_equation l f _ _ _ c.in_default.not-Less c.in_default.not-Stop) c.misplaced.ensures.number c.misplaced.ensures.place;
   grows = Growth.still _;
   less = λ e. absurd (grind arith);
 }

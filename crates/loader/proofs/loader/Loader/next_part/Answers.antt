@@ -6,8 +6,8 @@ use Rattle.loader.proofs.Marks
 use Rattle.loader.proofs.Sentences.{from_state, due_equation, due_round, due_bare}
 use Rattle.loader.proofs.loader.Loader.next_part.Goals as goal
 
-pub round-side-requires : goal.round-side-requires
-round-side-requires g c =
+pub round_side-requires : goal.round_side-requires
+round_side-requires g c =
     let z = Marks.one_word c.args.p.now.place c.args.p.now.word w.Open _ _ c.in-Open.is refl c.advance.ensures.size in
     record { few = omega arith; named = c.requires.named; left = c.requires.left }
 
@@ -22,14 +22,14 @@ pub returns-in-Open : goal.returns-in-Open
 returns-in-Open g c =
     let z = Marks.one_word c.args.p.now.place c.args.p.now.word w.Open _ _ c.in-Open.is refl c.advance.ensures.size in
     record {
-      goes = from_state g.K.Keeper.limits c.args.node _ _ _ _ _ _ (due_round g.K.Keeper.limits _ c.args.due c.in-RightSide.place c.in-RightSide.is _ _ _ _ c.in-Open.is _ _ c.advance.ensures.moves) _ _ _ _ _ _ c.round_side_lem.ensures.goes;
-      grows = Growth.on _ _ _ c.advance.ensures.grows c.round_side_lem.ensures.grows;
-      less = λ e. omega (arith, c.round_side_lem.ensures.less e);
+      goes = from_state g.K.Keeper.limits c.args.node _ _ _ _ _ _ (due_round g.K.Keeper.limits _ c.args.due c.in-RightSide.place c.in-RightSide.is _ _ _ _ c.in-Open.is _ _ c.advance.ensures.moves) _ _ _ _ _ _ c.round_side.ensures.goes;
+      grows = Growth.on _ _ _ c.advance.ensures.grows c.round_side.ensures.grows;
+      less = λ e. omega (arith, c.round_side.ensures.less e);
     }
 
-pub returns-in-default : goal.returns-in-default
-returns-in-default g c = record {
-  goes = from_state g.K.Keeper.limits c.args.node _ _ _ _ _ _ (due_bare g.K.Keeper.limits _ c.args.due c.in-RightSide.place c.in-RightSide.is _ _ _ _ c.in-default.not-Open) _ _ _ _ _ _ c.bare-side.ensures.goes;
-  grows = c.bare-side.ensures.grows;
-  less = c.bare-side.ensures.less;
+pub returns-in_default : goal.returns-in_default
+returns-in_default g c = record {
+  goes = from_state g.K.Keeper.limits c.args.node _ _ _ _ _ _ (due_bare g.K.Keeper.limits _ c.args.due c.in-RightSide.place c.in-RightSide.is _ _ _ _ c.in_default.not-Open) _ _ _ _ _ _ c.bare_side.ensures.goes;
+  grows = c.bare_side.ensures.grows;
+  less = c.bare_side.ensures.less;
 }

@@ -1,4 +1,4 @@
-use Rattle.std.proofs.Common.{[], sym, refl, ap, ◌∙◌, arith}
+use Rattle.std.proofs.Common.{[], refl, ◌∙◌, arith}
 use Rattle.std.proofs.lemmas.Result.{err_from_is_err_and}
 use Rattle.grammar.specs.Parsing.{between}
 use Rattle.lookahead.specs.Ahead.{names_of}
@@ -15,19 +15,19 @@ block-requires g c =
     record { few = omega (arith, c.loop-p.invariant.2, c.new-p.ensures.size); starts = c.in-Node.is }
 
 pub loop-p-smaller : goal.loop-p-smaller
-loop-p-smaller g c = c.in-ok-block.ensures.less refl
+loop-p-smaller g c = c.in_ok-block.ensures.less refl
 
 pub loop-p-preserved : goal.loop-p-preserved
 loop-p-preserved g c =
-    let told = c.in-ok-block.ensures in
+    let told = c.in_ok-block.ensures in
     (Theories.block_more _ _ _ _ _ _ c.loop-p.invariant.0 _ _ _ told.goes, Growth.on _ _ _ c.loop-p.invariant.1 told.grows, omega (arith, told.less refl, c.loop-p.invariant.2))
 
-pub returns-in-err-block : goal.returns-in-err-block
-returns-in-err-block g c =
-    let p = err_from_is_err_and c.from-residual.result c.from-residual.ensures.1 in
-    let told = c.in-err-block.ensures in
+pub returns-in_err-block : goal.returns-in_err-block
+returns-in_err-block g c =
+    let p = err_from_is_err_and c.from_residual.result c.from_residual.ensures.1 in
+    let told = c.in_err-block.ensures in
     record {
-      goes = rw (p.1, p.2) (c.new-p.ensures.moves _ (between []) ∙ Theories.block_bad _ _ _ _ _ _ c.loop-p.invariant.0 c.in-err-block.field-0.0 told.goes);
+      goes = rw (p.1, p.2) (c.new-p.ensures.moves _ (between []) ∙ Theories.block_bad _ _ _ _ _ _ c.loop-p.invariant.0 c.in_err-block.field-0.0 told.goes);
       grows = Growth.on _ _ _ (Growth.on _ _ _ c.new-p.ensures.grows c.loop-p.invariant.1) told.grows;
     }
 
@@ -37,8 +37,8 @@ returns-in-End g c = record {
   grows = Growth.on _ _ _ c.new-p.ensures.grows c.loop-p.invariant.1;
 }
 
-pub returns-in-default-word : goal.returns-in-default-word
-returns-in-default-word g c = record {
-  goes = c.new-p.ensures.moves _ (between []) ∙ Theories.text_bad _ _ _ _ _ _ _ _ c.loop-p.invariant.0 c.in-default.not-Node c.in-default-word.not-End c.misplaced.result c.misplaced.ensures.number c.misplaced.ensures.place;
+pub returns-in_default-word : goal.returns-in_default-word
+returns-in_default-word g c = record {
+  goes = c.new-p.ensures.moves _ (between []) ∙ Theories.text_bad _ _ _ _ _ _ _ _ c.loop-p.invariant.0 c.in_default.not-Node c.in_default-word.not-End c.misplaced.result c.misplaced.ensures.number c.misplaced.ensures.place;
   grows = Growth.on _ _ _ c.new-p.ensures.grows c.loop-p.invariant.1;
 }

@@ -28,7 +28,7 @@ upto_some L p t j (suc k) l e h =
     ap (λ (o : Option Terms). cond (is_some o) (Some (suc k)) (upto L p k)) (subst (λ i. L (take i p) ≡ Some t) q e) ∙ ap Some (sym q))
     (cases_lt j (suc k))
 
--- the look_up finds it
+-- the look-up finds it
 pub found_upto : (L : List Atom → Option Terms) (p : List Atom) → upto L p (length p) ≡ length_found (look_up L p)
 found_upto L p = by (look_up L p) (look_tells L p)
   where

@@ -1,4 +1,4 @@
--- A look_up finds the longest left path.
+-- A look-up finds the longest left path.
 use Rattle.std.proofs.Common.{◌≡◌, ℕ, zero, suc, ◌<◌, ◌≤◌, ◌⊎◌, ◌↔◌, List, [], ◌∷◌, length, take, Some, None, Option, refl, subst, inl, inr, arith}
 use Rattle.std.proofs.lemmas.Bool.{cases_order}
 use Rattle.terms.proofs.Impossible.{impossible}
@@ -8,7 +8,7 @@ use Rattle.terms.specs.Terms.{Terms}
 use Rattle.terms.specs.Maps.{Map, Longest}
 use Rattle.terms.specs.LookUp.{Look, found, nothing, here, further, look_up, LookUpFindsTheLongest}
 
--- what an answer of the look_up says
+-- what an answer of the look-up says
 abbrev pub Tells : (List Atom → Option Terms) → List Atom → Look → Type 0
 Tells L p (found k t) = (k ≤ length p) × (L (take k p) ≡ Some t) × ((j : ℕ) → k < j → j ≤ length p → L (take j p) ≡ None)
 Tells L p nothing = (j : ℕ) → j ≤ length p → L (take j p) ≡ None

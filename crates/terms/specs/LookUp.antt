@@ -1,4 +1,4 @@
--- The look_up of the longest left path with which a path begins.
+-- The look-up of the longest left path with which a path begins.
 use Rattle.std.specs.Prelude.{◌≡◌, ℕ, suc, ◌≤◌, ◌↔◌, List, [], ◌∷◌, length, take, Some, None, Option}
 use Rattle.terms.specs.declared.items.Node.{Node}
 use Rattle.terms.specs.declared.items.Atom.{Atom}

@@ -8,8 +8,14 @@ function, it ends in _lem. Names that would fall together are reported, and stay
 import os, re, sys, glob
 
 TOKEN = re.compile(r"[A-Za-z_Α-Ωα-ωℕℤ0-9][\w'′ℕℤ₀-₉]*(?:-[\w'′+*=<≤≡ℕℤ₀-₉]+)*", re.U)
-DECLARED = re.compile(r"^(\s*)((?:pub |abbrev |unfoldable |private )*)([^\s(){}]+)\s*:\s")
+DECLARED = re.compile(r"^(\s*)((?:pub |abbrev |unfoldable |private )*)([^\s(){}]+(?: [^\s(){}:]+)*)\s*:\s")
+ALIAS = re.compile(r"\bas ([^\s,{}]+)")
 HEADED = re.compile(r"^\s*(?:pub |abbrev |unfoldable )*(?:data|record|module)\s+(?:pub )?([^\s(){}:]+)")
+
+
+# locals, and aliases that stand beside a field of the same spelling
+CHOSEN = {"chains-room": "room_of_chains", "trie-room": "room_of_trie", "same-value": "same_value", "same-steps": "same_steps", "long-w": "long_w",
+          "open-end": "open_end"}
 
 
 def files(kind):
@@ -57,6 +63,10 @@ def main():
         for line in text.split("\n"):
             if line.lstrip().startswith("--"):
                 continue
+            if line.startswith("use "):
+                for n in ALIAS.findall(line):
+                    own.setdefault(n, set()).add(path)
+                continue
             m = HEADED.match(line)
             if m:
                 own.setdefault(m.group(1), set()).add(path)
@@ -64,9 +74,15 @@ def main():
             m = DECLARED.match(line)
             if m:
                 rest = line[m.end():].strip()
-                if re.match(r"(goal|need|needs)\.", rest):
+                if re.match(r"(goal|need|needs)\.", rest) or re.match(r"(returns|loop|invariant|decreases)-", m.group(3)):
                     continue
-                own.setdefault(m.group(3), set()).add(path)
+                for n in m.group(3).split(" "):
+                    own.setdefault(n, set()).add(path)
+    for path in rt:
+        for line in open(path).read().split("\n"):
+            if line.startswith("ghost use "):
+                for n in ALIAS.findall(line.rstrip(";")):
+                    own.setdefault(n, set()).add(path)
     own = {n: w for n, w in own.items() if "-" in n and re.fullmatch(TOKEN, n)}
     texts = {p: open(p).read() for p in antt + rt + files(".edit")}
     tokens = {}
@@ -76,6 +92,8 @@ def main():
     chosen = {}
     for n in sorted(own):
         new = respelt(n)
+        if n in CHOSEN:
+            continue
         if new is None:
             print("left:", n)
             continue
@@ -84,6 +102,7 @@ def main():
                 new += "_lem"
             print("also elsewhere:", n, "->", new, sorted(tokens.get(new, []))[:3])
         chosen[n] = new
+    chosen.update({n: new for n, new in CHOSEN.items() if n in tokens})
     back = {}
     for n, new in chosen.items():
         back.setdefault(new, []).append(n)

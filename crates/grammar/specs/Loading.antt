@@ -5,7 +5,7 @@ use Rattle.terms.specs.Maps.{node_in_range, atom_in_range}
 use Rattle.stores.specs.declared.refusals.Refusal.{Refusal}
 use Rattle.stores.specs.Sentences.{Sentence, map_of}
 use Rattle.stores.specs.declared.refusals.Refusal.TheVariants as refusals
-use Rattle.stores.specs.Refusals.{Limits, number, over as over-limits}
+use Rattle.stores.specs.Refusals.{Limits, number, over as over_limits}
 use Rattle.grammar.specs.Trees.{Word, AtomName, NodeName, Less, Greater, Quote, Colon, Is, Stop, Open, Close, Stray}
 use Rattle.grammar.specs.Parsing.{Stream, word, over, broken, State, Step, go, ends, bad, step, finish, Outcome, refused, so_far, depth}
 
@@ -28,7 +28,7 @@ abbrev pub late_refusal : Limits → List Sentence → Sentence → Option Refus
 late_refusal l kept x =
     cond (nat_lt path_limit (length x.left)) (Some refusals.LeftTooLong)
     (cond (nat_lt item_limit (length x.right)) (Some refusals.RightTooLong)
-    (cond (is_some (map_of kept x.node x.left)) (Some refusals.AlreadyKept) (cond (over-limits l kept x) (Some refusals.Full) None)))
+    (cond (is_some (map_of kept x.node x.left)) (Some refusals.AlreadyKept) (cond (over_limits l kept x) (Some refusals.Full) None)))
 
 abbrev pub kept_or : Option Refusal → ℕ → Outcome → Outcome
 kept_or None p o = o

@@ -22,8 +22,8 @@ sign_word Sign.colon = Colon
 sign_word Sign.equals = Is
 sign_word Sign.stop = Stop
 sign_word Sign.quote = Quote
-sign_word Sign.open-paren = Open
-sign_word Sign.close-paren = Close
+sign_word Sign.open_paren = Open
+sign_word Sign.close_paren = Close
 sign_word Sign.stray = Stray
 
 abbrev pub token_word : Names → Token → Word

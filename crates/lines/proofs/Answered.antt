@@ -92,9 +92,9 @@ shows_some (Some k) granted (phase.Stops s) v q e = (ended _, refl)
 with_all : (nodes atoms : List (List ℕ)) (o : Option Question) (out : Option Shown) (q : Question) (s : Shown) (v : List Atom) (w : Outcome) (k : ℕ)
     → Some q ≡ o → out ≡ Some s → v ≡ value_of out → w ≡ outcome_of out
     → shown_line nodes atoms o out k ≡ spelled_if_named nodes atoms q.node q.path v w k
-with_all nodes atoms o out q s v w k e f same-value same_outcome =
+with_all nodes atoms o out q s v w k e f same_value same_outcome =
     sym (ap (λ x. shown_line nodes atoms x out k) e) ∙ (ap (λ x. shown_line nodes atoms (Some q) x k) f ∙ (shown_named nodes atoms q s k
-    ∙ sym (ap (λ x. spelled_if_named nodes atoms q.node q.path x w k) (same-value ∙ ap value_of f)
+    ∙ sym (ap (λ x. spelled_if_named nodes atoms q.node q.path x w k) (same_value ∙ ap value_of f)
     ∙ ap (λ x. spelled_if_named nodes atoms q.node q.path (value_of (Some s)) x k) (same_outcome ∙ ap outcome_of f))))
 
 -- the test, put to the node and the path of a question
@@ -107,22 +107,22 @@ line_of : {S : Type 0} (names : Names) (e : Evaluator S) (q : Question) (v : Lis
     → Some q ≡ question_in (holding_of e) → v ≡ value_of (shown_by e) → w ≡ outcome_of (shown_by e)
     → b ≡ all_named (nodes_in names) (atoms_in names) q.node q.path v
     → line_by names e ≡ cond b (line (spelled names q v w e.steps)) (refused 12)
-line_of names e q v w b held same-value same_outcome t =
+line_of names e q v w b held same_value same_outcome t =
     let some = shows_some e.question e.granted e.machine.phase (vec_items e.machine.value) q held in
-    with_all (nodes_in names) (atoms_in names) (question_in (holding_of e)) (shown_by e) q some.0 v w e.steps held some.1 same-value same_outcome
+    with_all (nodes_in names) (atoms_in names) (question_in (holding_of e)) (shown_by e) q some.0 v w e.steps held some.1 same_value same_outcome
     ∙ sym (ap (λ x. cond x (line (spelled names q v w e.steps)) (refused 12)) t)
 
 pub refused_without_names : {S : Type 0} (names : Names) (e : Evaluator S) (q : Question) (v : List Atom)
     → Some q ≡ question_in (holding_of e) → v ≡ value_of (shown_by e) → false ≡ all_named (nodes_in names) (atoms_in names) q.node q.path v
     → line_by names e ≡ refused 12
-refused_without_names names e q v held same-value t = line_of names e q v (outcome_of (shown_by e)) false held same-value refl t
+refused_without_names names e q v held same_value t = line_of names e q v (outcome_of (shown_by e)) false held same_value refl t
 
 pub line_with_names : {S : Type 0} (names : Names) (e : Evaluator S) (q : Question) (v : List Atom) (w : Outcome) (k : ℕ)
     → Some q ≡ question_in (holding_of e) → v ≡ value_of (shown_by e) → w ≡ outcome_of (shown_by e) → k ≡ e.steps
     → true ≡ all_named (nodes_in names) (atoms_in names) q.node q.path v
     → line_by names e ≡ line (spelled names q v w k)
-line_with_names names e q v w k held same-value same_outcome same-steps t =
-    line_of names e q v w true held same-value same_outcome t ∙ ap (λ x. line (spelled names q v w x)) (sym same-steps)
+line_with_names names e q v w k held same_value same_outcome same_steps t =
+    line_of names e q v w true held same_value same_outcome t ∙ ap (λ x. line (spelled names q v w x)) (sym same_steps)
 
 -- what is promised of a line holds of one that is the same
 pub of_line : {A : Type 0} (f : Line → A) {x : A} {l m : Line} → x ≡ f m → l ≡ m → x ≡ f l

@@ -9,7 +9,7 @@ ghost use Rattle.stores.specs.Sentences.{is_pair};
 ghost use Rattle.stores.specs.Refusals.{fits};
 ghost use Rattle.kept.specs.Held.{kept_in, room_in};
 ghost use Rattle.kept.specs.Firsts.{first_by};
-ghost use Rattle.chains.specs.Held.{buckets_in, width_in, room_in as chains-room};
+ghost use Rattle.chains.specs.Held.{buckets_in, width_in, room_in as room_of_chains};
 ghost use Rattle.chains.specs.Last.{last_by, up_to};
 ghost use Rattle.listed.specs.Hash.{bucket_of_lem};
 
@@ -24,7 +24,7 @@ pub struct Listed {
     chains: Chains,
     ghost fit: { every fits (kept_in kept) ≡ true },
     ghost wide: { mask < width_in chains },
-    ghost chains_room: { (room_in kept).sentences ≤ chains-room chains },
+    ghost chains_room: { (room_in kept).sentences ≤ room_of_chains chains },
     ghost chained: { buckets_in chains ≡ map (bucket_of_lem mask) (kept_in kept) },
     ghost once: { (n : NodeOf) (l : List AtomOf) → up_to (last_by (is_pair n l) (kept_in kept)) ≡ up_to (first_by (is_pair n l) (kept_in kept)) },
 }

@@ -42,8 +42,8 @@ a_colon Sign.colon e = refl
 a_colon Sign.equals e = absurd (grind arith)
 a_colon Sign.stop e = absurd (grind arith)
 a_colon Sign.quote e = absurd (grind arith)
-a_colon Sign.open-paren e = absurd (grind arith)
-a_colon Sign.close-paren e = absurd (grind arith)
+a_colon Sign.open_paren e = absurd (grind arith)
+a_colon Sign.close_paren e = absurd (grind arith)
 a_colon Sign.stray e = absurd (grind arith)
 
 pub a_less : (x : Sign) → is_less_lem x ≡ true → x ≡ Sign.less
@@ -53,8 +53,8 @@ a_less Sign.colon e = absurd (grind arith)
 a_less Sign.equals e = absurd (grind arith)
 a_less Sign.stop e = absurd (grind arith)
 a_less Sign.quote e = absurd (grind arith)
-a_less Sign.open-paren e = absurd (grind arith)
-a_less Sign.close-paren e = absurd (grind arith)
+a_less Sign.open_paren e = absurd (grind arith)
+a_less Sign.close_paren e = absurd (grind arith)
 a_less Sign.stray e = absurd (grind arith)
 
 pub a_greater : (x : Sign) → is_greater x ≡ true → x ≡ Sign.greater
@@ -64,8 +64,8 @@ a_greater Sign.colon e = absurd (grind arith)
 a_greater Sign.equals e = absurd (grind arith)
 a_greater Sign.stop e = absurd (grind arith)
 a_greater Sign.quote e = absurd (grind arith)
-a_greater Sign.open-paren e = absurd (grind arith)
-a_greater Sign.close-paren e = absurd (grind arith)
+a_greater Sign.open_paren e = absurd (grind arith)
+a_greater Sign.close_paren e = absurd (grind arith)
 a_greater Sign.stray e = absurd (grind arith)
 
 -- ---- what is asked was spelt

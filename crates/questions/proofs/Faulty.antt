@@ -118,13 +118,13 @@ module _ (m p : ℕ) where
 
   -- ---- a sign in front of the path
   module _ (test : Sign → Bool) (z : Sign) (only : (x : Sign) → test x ≡ true → x ≡ z) (k : Words → Line) (ns : Names) (before : List Token) (some : 1 ≤ length before)
-      (open-end : Whole before → ⊥) (goes_on : Begins (before ++ Token.sign z ∷ [])) (no_other : (t : Token) → Begins (before ++ t ∷ []) → is_sign test t ≡ true)
+      (open_end : Whole before → ⊥) (goes_on : Begins (before ++ Token.sign z ∷ [])) (no_other : (t : Token) → Begins (before ++ t ∷ []) → is_sign test t ≡ true)
       (later : (W : Words) → k W ≡ rejected m p → FirstFault ns (before ++ Token.sign z ∷ []) W m p) where
     other : (t : Token) → is_sign test t ≡ false → Begins (before ++ t ∷ []) → ⊥
     other t h b = let i = no_other t b in let y : ◌≡◌ {A = ℕ} 0 1 = cc in omega arith
 
     fault_past : (W : Words) → past test k W ≡ rejected m p → FirstFault ns before W m p
-    fault_past (end_at s) e = alike (too_early some open-end) e
+    fault_past (end_at s) e = alike (too_early some open_end) e
     fault_past (fault_at r s) e = alike no_word e
     fault_past (Words.word s (Token.sign x) e more) q = go (test x) refl q
       where

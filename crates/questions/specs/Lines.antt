@@ -36,8 +36,8 @@ is_colon_lem Sign.colon = true
 is_colon_lem Sign.equals = false
 is_colon_lem Sign.stop = false
 is_colon_lem Sign.quote = false
-is_colon_lem Sign.open-paren = false
-is_colon_lem Sign.close-paren = false
+is_colon_lem Sign.open_paren = false
+is_colon_lem Sign.close_paren = false
 is_colon_lem Sign.stray = false
 
 abbrev pub is_less_lem : Sign → Bool
@@ -47,8 +47,8 @@ is_less_lem Sign.colon = false
 is_less_lem Sign.equals = false
 is_less_lem Sign.stop = false
 is_less_lem Sign.quote = false
-is_less_lem Sign.open-paren = false
-is_less_lem Sign.close-paren = false
+is_less_lem Sign.open_paren = false
+is_less_lem Sign.close_paren = false
 is_less_lem Sign.stray = false
 
 abbrev pub is_greater : Sign → Bool
@@ -58,8 +58,8 @@ is_greater Sign.colon = false
 is_greater Sign.equals = false
 is_greater Sign.stop = false
 is_greater Sign.quote = false
-is_greater Sign.open-paren = false
-is_greater Sign.close-paren = false
+is_greater Sign.open_paren = false
+is_greater Sign.close_paren = false
 is_greater Sign.stray = false
 
 abbrev pub is_sign : (Sign → Bool) → Token → Bool

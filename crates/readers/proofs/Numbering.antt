@@ -55,8 +55,8 @@ sign_cons s Sign.colon R = refl
 sign_cons s Sign.equals R = refl
 sign_cons s Sign.stop R = refl
 sign_cons s Sign.quote R = refl
-sign_cons s Sign.open-paren R = refl
-sign_cons s Sign.close-paren R = refl
+sign_cons s Sign.open_paren R = refl
+sign_cons s Sign.close_paren R = refl
 sign_cons s Sign.stray R = refl
 
 token_cons : (ns : Names) (s : ℕ) (t : Token) (R : Stream) → (t ≡ Token.text_end → ⊥) → cons s (word_for ns t) R ≡ word s (token_word ns t) R

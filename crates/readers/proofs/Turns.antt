@@ -2,7 +2,7 @@
 use Rattle.std.proofs.Common.{◌≡◌, ℕ, suc, ◌+◌, ◌-◌, ◌≤◌, Bool, true, List, [], ◌∷◌, ◌++◌, Some, None, Ok, Err, Option, Result, sym, refl, ap, ◌∙◌, append_assoc, append-nil, arith}
 use Rattle.terms.specs.declared.items.Node.{Node}
 use Rattle.terms.specs.declared.items.Item.{Item}
-use Rattle.terms.specs.declared.items.Item.TheVariants.{Atom as an_atom, Node as a-node, Open as opening, Close as close}
+use Rattle.terms.specs.declared.items.Item.TheVariants.{Atom as an_atom, Node as a_node, Open as opening, Close as close}
 use Rattle.terms.specs.declared.items.Quoting.{Quoting}
 use Rattle.terms.specs.declared.items.Quoting.TheVariants.{Plain as plain, Quoted as quoted}
 use Rattle.std.proofs.lemmas.Bool.{and_parts, and_from}
@@ -36,7 +36,7 @@ cons_items x l m = refl
 pub flat_then : (t u : Terms) → flat (then t u) ≡ flat t ++ flat u
 flat_then done u = refl
 flat_then (atom a t) u = ap (λ (l : List Item). an_atom a ∷ l) (flat_then t u)
-flat_then (node q n t) u = ap (λ (l : List Item). a-node q n ∷ l) (flat_then t u)
+flat_then (node q n t) u = ap (λ (l : List Item). a_node q n ∷ l) (flat_then t u)
 flat_then (path q n i t) u = simp (flat_then t u, append_assoc, cons_items)
 
 -- ranges and nesting of terms one behind the other

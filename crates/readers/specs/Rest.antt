@@ -122,8 +122,8 @@ sign_of Sign.colon = w.Colon
 sign_of Sign.equals = w.Equals
 sign_of Sign.stop = w.Stop
 sign_of Sign.quote = w.Quote
-sign_of Sign.open-paren = w.Open
-sign_of Sign.close-paren = w.Close
+sign_of Sign.open_paren = w.Open
+sign_of Sign.close_paren = w.Close
 sign_of Sign.stray = w.Stray
 
 abbrev pub word_for : Names → Token → Word

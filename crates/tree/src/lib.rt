@@ -11,7 +11,7 @@ ghost use Rattle.kept.specs.Held.{kept_in, room_in};
 ghost use Rattle.kept.specs.Firsts.{first_by};
 ghost use Rattle.chains.specs.Last.{up_to};
 ghost use Rattle.trie.specs.Ways.{word_of};
-ghost use Rattle.trie.specs.Held.{edges_in, mark_in, room_in as trie-room};
+ghost use Rattle.trie.specs.Held.{edges_in, mark_in, room_in as room_of_trie};
 
 use kept::Kept;
 use trie::Trie;
@@ -26,7 +26,7 @@ pub struct PrefixTree {
     ghost sentences_room: { (room_in kept).sentences ≡ 2048 },
     ghost atoms_room: { (room_in kept).atoms ≡ 8192 },
     ghost items_room: { (room_in kept).items ≡ 32768 },
-    ghost trie_room: { trie-room trie ≡ 10240 },
+    ghost trie_room: { room_of_trie trie ≡ 10240 },
     ghost places: { length (edges_in trie) ≤ length (kept_in kept) + atoms_in (kept_in kept) },
     ghost tied: { (n : NodeOf) (l : List AtomOf) → up_to (mark_in trie (word_of n l)) ≡ up_to (first_by (is_pair n l) (kept_in kept)) },
 }

@@ -2,7 +2,7 @@
 #![tactic(auto)]
 
 ghost use Rattle.std.specs.Prelude.{◌≡◌, ◌+◌, ◌<◌, ◌≤◌, map, length, vec_capacity};
-ghost use Rattle.chains.specs.Held.{buckets_in, width_in, room_in as chains-room};
+ghost use Rattle.chains.specs.Held.{buckets_in, width_in, room_in as room_of_chains};
 ghost use Rattle.trie.specs.Ways.{bucket_of_lem, Rising};
 
 use chains::Chains;
@@ -21,7 +21,7 @@ pub struct Trie {
     chains: Chains,
     ghost edges_room: { room ≤ vec_capacity edges },
     ghost marks_room: { room ≤ vec_capacity marks },
-    ghost chains_room: { room ≤ chains-room chains },
+    ghost chains_room: { room ≤ room_of_chains chains },
     ghost width: { width_in chains ≡ 8192 },
     ghost marks_len: { length marks.items ≡ length edges.items },
     ghost chained: { buckets_in chains ≡ map bucket_of_lem edges.items },

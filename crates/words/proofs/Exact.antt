@@ -111,7 +111,7 @@ only_so (Reads.word {at} {s} {e} {bytes} {g} {w} {rest} {t} {more} q p b gapped 
     let left : drop e text ≡ rest =
     ap (λ x. drop x text) (b ∙ ap (λ x. x + length w) p) ∙ left_behind text (at + length g) w rest (left_behind text at g (w ++ rest) (whole ∙ q)) in
     let long = left_length text at g (w ++ rest) (whole ∙ q) in
-    let long-w = length-append w rest in
+    let long_w = length-append w rest in
     let tail : more ≡ words_within n text e = only_so reads n text left (omega arith) (omega arith) in
     ap (Words.word s t e) tail ∙ sym (goes_on s e t (words_within n text) some.0) ∙ ap (λ r. continued r (words_within n text)) (sym here)
 

@@ -16,7 +16,7 @@ use Rattle.words.specs.declared.faults.WordRefusal.TheVariants.{BadByte, OpenQuo
 
 -- The words that are no names. A stray mark, # $ { } or a single =, stands in no theory.
 pub data Sign : Type 0 where
-  less greater colon equals stop quote open-paren close-paren stray : Sign
+  less greater colon equals stop quote open_paren close_paren stray : Sign
 
 -- what a word is
 pub data Token : Type 0 where
@@ -86,8 +86,8 @@ marked s mark.Stop bs = read s (sign stop) (s + 1)
 marked s mark.Quote bs = read s (sign quote) (s + 1)
 marked s mark.Tick bs = quoted atom s bs (prefix_len (of_name true) bs)
 marked s mark.Percent bs = read s (sign stray) (s + 1)
-marked s mark.Open bs = read s (sign open-paren) (s + 1)
-marked s mark.Close bs = read s (sign close-paren) (s + 1)
+marked s mark.Open bs = read s (sign open_paren) (s + 1)
+marked s mark.Close bs = read s (sign close_paren) (s + 1)
 marked s mark.Hash bs = read s (sign stray) (s + 1)
 marked s mark.Dollar bs = read s (sign stray) (s + 1)
 marked s mark.LeftBrace bs = read s (sign stray) (s + 1)
@@ -122,8 +122,8 @@ token word.Colon = sign colon
 token word.Equals = sign equals
 token word.Stop = sign stop
 token word.Quote = sign quote
-token word.Open = sign open-paren
-token word.Close = sign close-paren
+token word.Open = sign open_paren
+token word.Close = sign close_paren
 token (word.Node x) = node x.now
 token (word.Atom x) = atom x.now
 token word.Stray = sign stray

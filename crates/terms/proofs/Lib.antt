@@ -1,3 +1,4 @@
+pub mod Equality
 pub mod Impossible
 pub mod Balance
 pub mod LookUp

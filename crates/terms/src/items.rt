@@ -1,5 +1,5 @@
 // Nodes, atoms, and the items that a right side is kept as.
-ghost use Rattle.std.specs.Prelude.{◌≡◌, Decides, nat_eq};
+ghost use Rattle.std.specs.Prelude.{nat_eq};
 ghost use Rattle.std.specs.Ordering.{on};
 ghost use Rattle.std.specs.Cmp.Rules.{comparing};
 ghost use Rattle.std.proofs.Common.{rules};
@@ -11,7 +11,7 @@ pub struct Node(pub u16);
 #[derive(Clone, Copy, Eq, Debug)]
 pub struct Atom(pub u16);
 
-// Written by hand: a derived comparison tells its caller of the fields, and not of the whole.
+// Written by hand: equal are nodes and atoms of the same number, which decides whether they are the same.
 impl PartialEq for Node {
     ghost eq = { on (λ v. v.0) nat_eq };
 

@@ -1,15 +1,17 @@
 // Each text beside its words, by hand from the rules.
 use crate::listing;
-use std::alloc::Global;
-use std::process::Abort;
+use std::alloc::{AllocError, Global};
 use std::test::Fail;
 
-fn holds(rt: &impl Abort, heap: Global, cases: &[(&[u8], &[u8])]) -> Result<(), Fail> {
-    for case in cases {
+// Where the first case stands that is listed otherwise, if there is one.
+fn first_other(heap: Global, cases: &[(&[u8], &[u8])]) -> Result<Option<usize>, AllocError> {
+    for (i, case) in cases.iter().enumerate() {
         let listed = listing(heap, case.0)?;
-        assert_eq!(rt; listed.as_slice(), case.1);
+        if listed.as_slice() != case.1 {
+            return Ok(Some(i));
+        }
     }
-    Ok(())
+    Ok(None)
 }
 
 const MARKS: &[(&[u8], &[u8])] = &[
@@ -101,20 +103,24 @@ const FAULTS: &[(&[u8], &[u8])] = &[
 
 #[test]
 fn marks(rt: HostRuntime) -> Result<(), Fail> {
-    holds(&rt, rt.alloc(), MARKS)
+    assert_eq!(rt; first_other(rt.alloc(), MARKS)?, None);
+    Ok(())
 }
 
 #[test]
 fn comments(rt: HostRuntime) -> Result<(), Fail> {
-    holds(&rt, rt.alloc(), COMMENTS)
+    assert_eq!(rt; first_other(rt.alloc(), COMMENTS)?, None);
+    Ok(())
 }
 
 #[test]
 fn names(rt: HostRuntime) -> Result<(), Fail> {
-    holds(&rt, rt.alloc(), NAMES)
+    assert_eq!(rt; first_other(rt.alloc(), NAMES)?, None);
+    Ok(())
 }
 
 #[test]
 fn faults(rt: HostRuntime) -> Result<(), Fail> {
-    holds(&rt, rt.alloc(), FAULTS)
+    assert_eq!(rt; first_other(rt.alloc(), FAULTS)?, None);
+    Ok(())
 }

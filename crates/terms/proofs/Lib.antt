@@ -1,4 +1,5 @@
 pub mod Equality
+pub mod Every
 pub mod Impossible
 pub mod Balance
 pub mod LookUp

@@ -1,5 +1,4 @@
 pub mod Equality
-pub mod Every
 pub mod Impossible
 pub mod Balance
 pub mod LookUp

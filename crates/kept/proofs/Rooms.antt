@@ -1,7 +1,8 @@
 -- What a limit that is not passed says.
-use Rattle.std.proofs.Common.{◌≡◌, ℕ, ◌+◌, ◌≤◌, min, false, ◌||◌, ltb, List, length, ap, ◌∙◌, arith}
+use Rattle.std.proofs.Common.{Bool, true, cond, Ok, Err, Result, refl, ◌≡◌, ℕ, ◌+◌, ◌≤◌, min, false, ◌||◌, ltb, List, length, ap, ◌∙◌, arith}
 use Rattle.std.proofs.lemmas.Bool.{or_parts, ltb-false}
 use Rattle.stores.specs.Sentences.{Sentence, atoms_in, items_in}
+use Rattle.stores.specs.declared.refusals.Refusal.{Refusal}
 use Rattle.kept.specs.declared.Room.{Room}
 use Rattle.kept.specs.Held.{passes, smaller, limits_of}
 
@@ -39,3 +40,8 @@ smaller_limits s a i m r e x y z =
     let q = min_same a r.atoms y in
     let t = min_same i r.items z in
     ap (λ (k : Room). limits_of (smaller k r)) e ∙ (λ j. record { sentences = p j; atoms = q j; items = t j })
+
+-- what `put` keeps is within
+pub not_passed : (b : Bool) (e : Refusal) → ◌≡◌ {A = Result (Unit {0}) Refusal} (Ok tt) (cond b (Err e) (Ok tt)) → b ≡ false
+not_passed true e h = absurd (let z : ◌≡◌ {A = ℕ} 0 1 = cc in omega arith)
+not_passed false e h = refl

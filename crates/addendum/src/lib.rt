@@ -2,17 +2,20 @@
 #![tactic(auto)]
 
 ghost use Rattle.std.specs.Prelude.{◌≡◌};
-ghost use Rattle.listed.specs.Held.{room_in};
+ghost use Rattle.kept.specs.Held.{limits_of as limits_of_room};
+ghost use Rattle.addendum.specs.Held.{limits_of};
 
-use listed::Listed;
+use kept::Room;
+use listed::Bounded;
+use stores::Keeper;
 
 /// It keeps at most 256 sentences with 1,024 atoms in left paths and 2,048 items.
-#[derive(Drop)]
-pub struct Addendum {
-    list: Listed,
-    ghost sentences_room: { (room_in list).sentences ≡ 256 },
-    ghost atoms_room: { (room_in list).atoms ≡ 1024 },
-    ghost items_room: { (room_in list).items ≡ 2048 },
-}
+pub type Addendum = Bounded<256, 1024, 2048, 255>;
 
-pub mod keep;
+/// What it keeps at most.
+pub fn limits() -> Room
+    ensures room { limits_of_room result ≡ limits_of }
+    ensures keeper { ⟦<Addendum as Keeper>⟧.limits ≡ limits_of }
+{
+    Addendum::most()
+}

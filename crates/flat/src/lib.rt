@@ -2,17 +2,20 @@
 #![tactic(auto)]
 
 ghost use Rattle.std.specs.Prelude.{◌≡◌};
-ghost use Rattle.listed.specs.Held.{room_in};
+ghost use Rattle.kept.specs.Held.{limits_of as limits_of_room};
+ghost use Rattle.flat.specs.Held.{limits_of};
 
-use listed::Listed;
+use kept::Room;
+use listed::Bounded;
+use stores::Keeper;
 
 /// It keeps at most 4,096 sentences with 16,384 atoms in left paths and 32,768 items.
-#[derive(Drop)]
-pub struct FlatList {
-    list: Listed,
-    ghost sentences_room: { (room_in list).sentences ≡ 4096 },
-    ghost atoms_room: { (room_in list).atoms ≡ 16384 },
-    ghost items_room: { (room_in list).items ≡ 32768 },
-}
+pub type FlatList = Bounded<4096, 16384, 32768, 4095>;
 
-pub mod keep;
+/// What it keeps at most.
+pub fn limits() -> Room
+    ensures room { limits_of_room result ≡ limits_of }
+    ensures keeper { ⟦<FlatList as Keeper>⟧.limits ≡ limits_of }
+{
+    FlatList::most()
+}

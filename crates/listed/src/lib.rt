@@ -29,4 +29,8 @@ pub struct Listed {
     ghost once: { (n : NodeOf) (l : List AtomOf) → up_to (last_by (is_pair n l) (kept_in kept)) ≡ up_to (first_by (is_pair n l) (kept_in kept)) },
 }
 
+mod bounded;
+pub mod keep;
 pub mod list;
+
+pub use bounded::Bounded;

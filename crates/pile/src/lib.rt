@@ -1,8 +1,7 @@
 // A pile: an addendum over any store. It is a store again, so that piles can be piled.
 #![tactic(auto)]
 
-ghost use Rattle.std.specs.Prelude.{◌≡◌};
-ghost use Rattle.stores.specs.Piles.{pile_meaning, larger};
+ghost use Rattle.stores.specs.Piles.{pile_meaning};
 ghost use Rattle.addendum.specs.Held.{meaning_in};
 
 use addendum::Addendum;
@@ -16,18 +15,14 @@ pub struct Pile<S> {
     pub below: S,
 }
 
-// The longer of two lengths that may not be there.
-fn longer(a: Option<usize>, b: Option<usize>) -> Option<usize>
-    ensures { result ≡ larger a b }
-{
-    a.max(b)
-}
-
 impl<S: Store> Store for Pile<S> {
     ghost means = { λ s. pile_meaning (meaning_in s.addendum) (S.Store.means s.below) };
 
     fn find(&self, node: Node, path: &[Atom]) -> Option<usize> {
-        longer(self.addendum.find(node, path), self.below.find(node, path))
+        let upper = self.addendum.find(node, path);
+        let lower = self.below.find(node, path);
+        // The longer of the two: none is less than any.
+        upper.max(lower)
     }
 
     fn item(&self, node: Node, left: &[Atom], k: usize) -> Option<Item> {

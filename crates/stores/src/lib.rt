@@ -1,7 +1,7 @@
 // What a store is: it means a map, and answers by it; and what a keeper is: a store that takes sentences.
 #![tactic(auto)]
 
-ghost use Rattle.std.specs.Prelude.{◌≡◌, List, []};
+ghost use Rattle.std.specs.Prelude.{◌≡◌, ℕ, List, []};
 ghost use Rattle.terms.specs.Maps.{Meaning};
 ghost use Rattle.terms.specs.LookUp.{look_up, length_found};
 ghost use Rattle.stores.specs.Items.{item_at, items_of};
@@ -46,14 +46,22 @@ pub trait Keeper: Store {
     /// How many sentences it keeps at most.
     const SENTENCES: usize;
 
+    ghost SENTENCES: { ℕ };
+
     /// How many atoms there are at most in all left paths together.
     const ATOMS: usize;
+
+    ghost ATOMS: { ℕ };
 
     /// How many items there are at most in all right sides together.
     const ITEMS: usize;
 
+    ghost ITEMS: { ℕ };
+
     /// These three, for contracts to name.
     ghost limits: { Limits };
+
+    ghost limited: { limits ≡ record { sentences = SENTENCES; atoms = ATOMS; items = ITEMS } };
 
     /// The sentences in the order of adding.
     ghost kept: { Self → List Sentence };

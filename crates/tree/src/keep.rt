@@ -92,11 +92,19 @@ impl Store for PrefixTree {
 impl Keeper for PrefixTree {
     const SENTENCES: usize = 2048;
 
+    ghost SENTENCES = { 2048 };
+
     const ATOMS: usize = 8192;
+
+    ghost ATOMS = { 8192 };
 
     const ITEMS: usize = 32768;
 
+    ghost ITEMS = { 32768 };
+
     ghost limits = { limits_of };
+
+    ghost limited = { refl };
 
     ghost kept = { kept_in };
 

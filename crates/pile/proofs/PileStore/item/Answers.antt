@@ -1,4 +1,4 @@
-use mathlib.Core.Path.{sym, ap, ◌∙◌}
+use Rattle.std.proofs.Common.{sym, ap, ◌∙◌}
 use Rattle.stores.specs.Items.{item_at, items_of}
 use Rattle.stores.proofs.Longest.{either_upper, either_lower}
 use Rattle.addendum.specs.Held.{meaning_in}

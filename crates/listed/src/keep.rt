@@ -1,20 +1,24 @@
-// The calls.
+// The calls of a list with limits.
 ghost use Rattle.std.specs.Prelude.{◌≡◌, [], is_some, IfOk};
-ghost use Rattle.stores.specs.Sentences.{map_of};
-ghost use Rattle.addendum.specs.Held.{kept_in, meaning_in, limits_of};
 ghost use Rattle.std.proofs.Common.{refl};
+ghost use Rattle.stores.specs.Sentences.{map_of};
+ghost use Rattle.listed.specs.Bounded.{kept_in, meaning_in, limits_of};
 
-use super::Addendum;
+use super::{Bounded, Listed};
 use kept::Room;
-use listed::Listed;
 use std::alloc::{AllocError, Global};
 use stores::{Keeper, Refusal, Store};
 use terms::{Atom, Item, Node};
 
-impl Addendum {
-    // What it keeps at most.
-    fn most() -> Room
-        ensures { result ≡ record { sentences = 256; atoms = 1024; items = 2048 } }
+impl<const SENTENCES: usize, const ATOMS: usize, const ITEMS: usize, const MASK: u16> Bounded<
+    SENTENCES,
+    ATOMS,
+    ITEMS,
+    MASK,
+> {
+    /// What it keeps at most.
+    pub fn most() -> Room
+        ensures { result ≡ record { sentences = SENTENCES; atoms = ATOMS; items = ITEMS } }
     {
         Room {
             sentences: Self::SENTENCES,
@@ -24,11 +28,11 @@ impl Addendum {
     }
 
     /// Nothing kept, with all the memory that it will ever take.
-    pub fn new(heap: Global) -> Result<Addendum, AllocError>
+    pub fn new(heap: Global) -> Result<Self, AllocError>
         ensures { IfOk result (λ s. kept_in s ≡ []) }
     {
-        let list = Listed::new(heap, Self::most(), 255)?;
-        Ok(Addendum { list })
+        let list = Listed::new(heap, Self::most(), MASK)?;
+        Ok(Bounded { list })
     }
 
     /// Whether a node and a left path have a sentence.
@@ -39,7 +43,8 @@ impl Addendum {
     }
 }
 
-impl Store for Addendum {
+impl<const SENTENCES: usize, const ATOMS: usize, const ITEMS: usize, const MASK: u16> Store
+    for Bounded<SENTENCES, ATOMS, ITEMS, MASK> {
     ghost means = { meaning_in };
 
     fn find(&self, node: Node, path: &[Atom]) -> Option<usize> {
@@ -51,14 +56,23 @@ impl Store for Addendum {
     }
 }
 
-impl Keeper for Addendum {
-    const SENTENCES: usize = 256;
+impl<const SENTENCES: usize, const ATOMS: usize, const ITEMS: usize, const MASK: u16> Keeper
+    for Bounded<SENTENCES, ATOMS, ITEMS, MASK> {
+    const SENTENCES: usize = SENTENCES;
 
-    const ATOMS: usize = 1024;
+    ghost SENTENCES = { SENTENCES };
 
-    const ITEMS: usize = 2048;
+    const ATOMS: usize = ATOMS;
 
-    ghost limits = { limits_of };
+    ghost ATOMS = { ATOMS };
+
+    const ITEMS: usize = ITEMS;
+
+    ghost ITEMS = { ITEMS };
+
+    ghost limits = { limits_of SENTENCES ATOMS ITEMS };
+
+    ghost limited = { refl };
 
     ghost kept = { kept_in };
 

@@ -25,6 +25,7 @@ impl<S: Store> Store for Pile<S> {
         upper.max(lower)
     }
 
+    #[tactic(auto, using(stores::proofs::Longest::either_upper, stores::proofs::Longest::either_lower))]
     fn item(&self, node: Node, left: &[Atom], k: usize) -> Option<Item> {
         if self.addendum.has(node, left) {
             self.addendum.item(node, left, k)

@@ -98,6 +98,7 @@ impl Listed {
     }
 
     /// Whether a node and a left path have a sentence.
+    #[tactic(auto, using(kept::proofs::Firsts::some_first))]
     pub fn has(&self, node: Node, left: &[Atom]) -> bool
         ensures { result ≡ is_some (map_of (held_in self.now) node left.now) }
     {

@@ -1,7 +1,7 @@
 use Rattle.std.proofs.Common.{rules}
 use Rattle.words.proofs.Scanning.{gap_end_lem, gap_comment, gap_percent, gap_blank, gap_stop}
-use Rattle.words.proofs.scan.gap_end.Goals as goal
-use Rattle.words.proofs.scan.gap_end.Goals.{then-in_comment, else-in_comment+then-b-eq37, else-in_comment+else-b-eq37+else-not-is_blank}
+use Rattle.words.proofs.scan.gap_len.Goals as goal
+use Rattle.words.proofs.scan.gap_len.Goals.{then-in_comment, else-in_comment+then-b-eq37, else-in_comment+else-b-eq37+else-not-is_blank}
 
 pub returns-then-not-is_blank : goal.returns-then-not-is_blank
 returns-then-not-is_blank c = search (rules, gap_stop)

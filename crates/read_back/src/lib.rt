@@ -4,22 +4,16 @@
 ghost use Rattle.read_back.specs.Theorems.{QuestionsComeBack, ValuesComeBack, NamesStaySpellable};
 
 /// A question that is written under spellable names reads as that question, and has no new name.
-pub fn questions_come_back() -> u8
+pub fn questions_come_back()
     ensures { QuestionsComeBack }
-{
-    0
-}
+{}
 
 /// The words of a value that is written under spellable names are its atoms.
-pub fn values_come_back() -> u8
+pub fn values_come_back()
     ensures { ValuesComeBack }
-{
-    0
-}
+{}
 
 /// Texts and lines only give names that can be spelt.
-pub fn names_stay_spellable() -> u8
+pub fn names_stay_spellable()
     ensures { NamesStaySpellable }
-{
-    0
-}
+{}

@@ -7,85 +7,61 @@ ghost use Rattle.rules.specs.QuestionTable.{QuestionsAreAsInTheTable};
 ghost use Rattle.rules.specs.Boundaries.{OpenSentencesEndAt96, ValuesEndAt256, PathsEndAt32, TestsComeInOrder, TermsAreWorkedFromLeftToRight};
 
 /// Keller's Def uses the sentence that the look-up finds.
-pub fn most_specific_is_found() -> u8
+pub fn most_specific_is_found()
     ensures { MostSpecificIsFound }
-{
-    0
-}
+{}
 
 /// The test for a circle is of equality in node, path and context.
-pub fn same_question_is_equality() -> u8
+pub fn same_question_is_equality()
     ensures { SameQuestionIsEquality }
-{
-    0
-}
+{}
 
 /// The table of questions and Keller's rules derive the same values, with the same number of uses of Def, also within the limits.
-pub fn table_derives_as_keller() -> u8
+pub fn table_derives_as_keller()
     ensures { TableDerivesAsKeller }
-{
-    0
-}
+{}
 
 /// All derivations of a question agree in value and in uses of Def.
-pub fn derivations_agree() -> u8
+pub fn derivations_agree()
     ensures { DerivationsAgree }
-{
-    0
-}
+{}
 
 /// A value outcome is derived within the limits, in as many uses of Def as steps.
-pub fn values_are_derived_within_the_limits() -> u8
+pub fn values_are_derived_within_the_limits()
     ensures { ValuesAreDerivedWithinTheLimits }
-{
-    0
-}
+{}
 
 /// Every value derived within the limits is the outcome, in as many steps as uses of Def.
-pub fn derived_values_are_outcomes() -> u8
+pub fn derived_values_are_outcomes()
     ensures { DerivedValuesAreOutcomes }
-{
-    0
-}
+{}
 
 /// Undefined and circular mean that nothing is derived; path, depth and length, that no derivation keeps that limit.
-pub fn stops_mean_no_derivation() -> u8
+pub fn stops_mean_no_derivation()
     ensures { StopsMeanNoDerivation }
-{
-    0
-}
+{}
 
 /// For every question and every number of granted steps: what is shown and the steps reported, by Keller's rules.
-pub fn all_is_shown_by_the_rules() -> u8
+pub fn all_is_shown_by_the_rules()
     ensures { AllIsShownByTheRules }
-{
-    0
-}
+{}
 
 /// The worked theory's table, and one of its questions by steps.
-pub fn worked_theory_comes_to_its_table() -> u8
+pub fn worked_theory_comes_to_its_table()
     ensures { (WorkedTheoryComesTo) × (LampBySteps) }
-{
-    0
-}
+{}
 
 /// Each term asks the question that its row of the table has: node, path and context are told by the values of a theory.
-pub fn questions_are_as_in_the_table() -> u8
+pub fn questions_are_as_in_the_table()
     ensures { QuestionsAreAsInTheTable }
-{
-    0
-}
+{}
 
 /// Where 96 open sentences, 256 atoms of a value and 32 atoms of a path end.
-pub fn limits_end_where_they_say() -> u8
+pub fn limits_end_where_they_say()
     ensures { (OpenSentencesEndAt96) × ((ValuesEndAt256) × (PathsEndAt32)) }
-{
-    0
-}
+{}
 
 /// A new question is tested for depth after path and circular, and the first term that stops says why.
-pub fn tests_and_terms_come_in_order() -> u8
+pub fn tests_and_terms_come_in_order()
     ensures { (TestsComeInOrder) × (TermsAreWorkedFromLeftToRight) }
-{
-    0
-}
+{}

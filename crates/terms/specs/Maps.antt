@@ -1,5 +1,6 @@
 -- What a store means: a map from pairs of a node and a left path to right sides.
 use Rattle.std.specs.Prelude.{◌≡◌, ℕ, ◌<◌, ◌≤◌, Bool, true, false, ◌&&◌, List, [], ◌∷◌, length, take, Some, None, Option, ◌==◌, nat_lt}
+use Rattle.std.specs.List.{list_all}
 use Rattle.terms.specs.declared.items.Node.{Node}
 use Rattle.terms.specs.declared.items.Atom.{Atom}
 use Rattle.terms.specs.declared.items.Item.{Item}
@@ -32,8 +33,7 @@ item_in_range item.Close = true
 
 -- a test that holds of every element
 abbrev pub every : {X : Type 0} → (X → Bool) → List X → Bool
-every f [] = true
-every f (x ∷ xs) = f x && every f xs
+every f xs = list_all f xs
 
 -- a sentence within the limits
 pub record Fitting (n : Node) (l : List Atom) (t : Terms) : Type 0 where

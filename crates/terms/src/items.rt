@@ -1,34 +1,30 @@
 // Nodes, atoms, and the items that a right side is kept as.
-ghost use Rattle.std.specs.Prelude.{nat_eq};
-ghost use Rattle.std.specs.Ordering.{on};
-ghost use Rattle.std.specs.Cmp.Rules.{comparing};
-ghost use Rattle.std.proofs.Common.{rules};
-ghost use Rattle.std.specs.Cmp as Keys;
+ghost use Rattle.std.specs.Prelude.{◌≡◌};
+ghost use Rattle.terms.specs.Maps.{node_in_range, atom_in_range};
 
-#[derive(Clone, Copy, Eq, Debug)]
+use crate::limits::{ATOMS, NODES};
+
+#[derive(Clone, Copy, Debug, PartialEq, Eq)]
 pub struct Node(pub u16);
 
-#[derive(Clone, Copy, Eq, Debug)]
-pub struct Atom(pub u16);
-
-// Written by hand: equal are nodes and atoms of the same number, which decides whether they are the same.
-impl PartialEq for Node {
-    ghost eq = { on (λ v. v.0) nat_eq };
-
-    ghost laws = { Keys.partial_equiv_from_equiv (Prim.search (comparing, rules)) };
-
-    fn eq(&self, other: &Node) -> bool {
-        self.0 == other.0
+impl Node {
+    /// Whether a node may have this number.
+    pub fn is_in_range(self) -> bool
+        ensures { result ≡ node_in_range self }
+    {
+        self.0 < NODES
     }
 }
 
-impl PartialEq for Atom {
-    ghost eq = { on (λ v. v.0) nat_eq };
+#[derive(Clone, Copy, Debug, Eq, PartialEq)]
+pub struct Atom(pub u16);
 
-    ghost laws = { Keys.partial_equiv_from_equiv (Prim.search (comparing, rules)) };
-
-    fn eq(&self, other: &Atom) -> bool {
-        self.0 == other.0
+impl Atom {
+    /// Whether an atom may have this number.
+    pub fn is_in_range(self) -> bool
+        ensures { result ≡ atom_in_range self }
+    {
+        self.0 < ATOMS
     }
 }
 

@@ -1,15 +1,10 @@
-use Rattle.std.proofs.Common.{◌≡◌, length, Err, ap, ◌∙◌, arith, rules}
+use Rattle.std.proofs.Common.{◌≡◌, length, Err, ap, ◌∙◌, arith}
 use Rattle.std.proofs.lemmas.Result.{err_from_is_err_and}
 use Rattle.words.specs.Tallies.{none, tallied}
 use Rattle.words.specs.Texts.{words_of}
 use Rattle.words.proofs.Exact.{words_are_exact}
-use Rattle.words.proofs.Counting.{counting_none, counting_faults, counting_ends, counting_more}
+use Rattle.words.proofs.Counting.{counting_faults, counting_ends, counting_more}
 use Rattle.words.proofs.tally.tally_words.Goals as goal
-
-pub loop-word-init : goal.loop-word-init
-loop-word-init c =
-    let fresh : c.default-tally.result ≡ none = search rules in
-    (c.new-reader.ensures.0, rw (c.new-reader.ensures.1, fresh) (counting_none c.new-reader.result.text.now))
 
 pub returns-in_err-word : goal.returns-in_err-word
 returns-in_err-word c =

@@ -1,10 +1,10 @@
 -- What is in chains.
-use Rattle.std.specs.Prelude.{ℕ, List, vec_items}
+use Rattle.std.specs.Prelude.{ℕ, List}
 use Rattle.chains.specs.declared.Chains.{Chains}
 
 -- the bucket of each entry, in the order of pushing
 abbrev pub buckets_in : Chains → List ℕ
-buckets_in c = vec_items c.buckets
+buckets_in c = c.buckets
 
 -- how many buckets there are
 abbrev pub width_in : Chains → ℕ

@@ -1,106 +1,99 @@
 // Reading along the chains, and adding to them.
-ghost use Rattle.std.specs.Prelude.{◌≡◌, ◌+◌, ◌-◌, ◌<◌, ◌&&◌, [], ◌∷◌, ◌++◌, length, take, IfOk, if◌then◌else◌, nat_eq, nat_lt};
+ghost use Rattle.std.specs.Prelude.{◌≡◌, ℕ, ◌-◌, ◌<◌, [], ◌∷◌, ◌++◌, length, take, Ok, Err, is_ok, IfOk, IfSome, IfNone, if◌then◌else◌, nat_eq, nat_lt};
 ghost use Rattle.chains.specs.Last.{last_by, earlier};
+ghost use Rattle.chains.specs.Entries.{with_buckets};
 ghost use Rattle.chains.specs.Held.{buckets_in, width_in, room_in};
+ghost use Rattle.chains.specs.Found.{IsLastPassing, AllFailFrom};
+ghost use Rattle.chains.specs.declared.PushError.{PushError};
 
-use super::Chains;
+use super::{Chains, Link, PushError};
 use std::alloc::{AllocError, Global};
 
 impl Chains {
     /// No entry, so many buckets, and memory for so many entries.
     pub fn new(heap: Global, width: usize, room: usize) -> Result<Chains, AllocError>
-        ensures { IfOk result (λ c. (buckets_in c ≡ []) × (width_in c ≡ width) × (room_in c ≡ room)) }
+        ensures { IfOk result (λ c. c ≡ record { width = width; room = room; buckets = [] }) }
     {
-        let mut heads = Vec::with_capacity(heap, width)?;
-        let _ = heads.resize(width, None);
-        let buckets = Vec::with_capacity(heap, room)?;
-        let befores = Vec::with_capacity(heap, room)?;
-        Ok(Chains {
-            width,
-            room,
-            heads,
-            buckets,
-            befores,
-        })
+        let heads = vec![in heap; None; width]?;
+        let links = Vec::with_capacity(heap, room)?;
+        Ok(Chains { room, heads, links })
     }
 
     /// The last entry of a bucket.
+    #[tactic(auto, using(crate::proofs::Lasts::none_wide))]
     pub fn last(&self, bucket: usize) -> Option<usize>
         ensures { result ≡ last_by (nat_eq bucket) (buckets_in self.now) }
     {
-        if bucket < self.heads.len() {
-            self.heads[bucket]
-        } else {
-            None
-        }
+        self.heads.get(bucket).copied().flatten()
     }
 
     /// The last entry before another that is in the same bucket.
     pub fn before(&self, entry: usize) -> Option<usize>
         ensures { result ≡ earlier (buckets_in self.now) entry }
     {
-        if entry < self.befores.len() {
-            self.befores[entry]
-        } else {
-            None
-        }
+        self.links.get(entry).and_then(|link| link.before)
     }
 
-    /// One entry more, in a bucket. It answers whether there is such a bucket, and memory for the entry; else nothing is altered.
-    pub fn push(&mut self, bucket: usize) -> bool
-        ensures gives { result ≡ (nat_lt bucket (width_in self.old) && nat_lt (length (buckets_in self.old)) (room_in self.old)) }
-        ensures entries { buckets_in self.new ≡ (if result then buckets_in self.old ++ bucket ∷ [] else buckets_in self.old) }
-        ensures width { width_in self.new ≡ width_in self.old }
-        ensures room { room_in self.new ≡ room_in self.old }
+    /// The last entry of a bucket for which the test answers true.
+    pub fn find<F: Fn(usize) -> bool>(&self, bucket: usize, test: F) -> Option<usize>
+        requires { (i : ℕ) → i < length (buckets_in self.now) → F.pre test i }
+        ensures found { IfSome result (IsLastPassing (buckets_in self.now) bucket (F.post test)) }
+        ensures none { IfNone result (AllFailFrom (buckets_in self.now) bucket (F.post test) 0) }
     {
-        if bucket >= self.width {
-            return false;
+        let mut at = self.last(bucket);
+        while let Some(entry) = at {
+            if test(entry) {
+                return at;
+            }
+            at = self.before(entry);
         }
-        let entry = self.buckets.len();
+        None
+    }
+
+    /// One entry more, in a bucket; where there is none more, nothing is altered.
+    pub fn push(&mut self, bucket: usize) -> Result<(), PushError>
+        ensures gives { result ≡ (if nat_lt bucket (width_in self.old) then (if nat_lt (length (buckets_in self.old)) (room_in self.old) then Ok tt else Err PushError.Full) else Err PushError.NoBucket) }
+        ensures entries { self.new ≡ with_buckets self.old (if is_ok result then buckets_in self.old ++ bucket ∷ [] else buckets_in self.old) }
+    {
+        if bucket >= self.heads.len() {
+            return Err(PushError::NoBucket);
+        }
+        let entry = self.links.len();
         if entry >= self.room {
-            return false;
+            return Err(PushError::Full);
         }
         let before = self.heads[bucket];
         self.heads[bucket] = Some(entry);
-        self.befores.push_reserved(before);
-        self.buckets.push_reserved(bucket);
-        true
+        self.links.push_reserved(Link { bucket, before });
+        Ok(())
     }
 
     // The entries without the last.
     fn pop(&mut self)
         requires { 0 < length (buckets_in self.old) }
-        ensures entries { buckets_in self.new ≡ take (length (buckets_in self.old) - 1) (buckets_in self.old) }
-        ensures width { width_in self.new ≡ width_in self.old }
-        ensures room { room_in self.new ≡ room_in self.old }
+        ensures { self.new ≡ with_buckets self.old (take (length (buckets_in self.old) - 1) (buckets_in self.old)) }
     {
-        let last = self.buckets.len() - 1;
-        let bucket = self.buckets[last];
-        let before = self.befores[last];
-        self.heads[bucket] = before;
-        self.befores.truncate(last);
-        self.buckets.truncate(last);
+        let last = self.links.len() - 1;
+        let link = self.links[last];
+        self.heads[link.bucket] = link.before;
+        self.links.truncate(last);
     }
 
     /// The first entries, as many as are wanted.
     pub fn truncate(&mut self, entries: usize)
-        ensures entries { buckets_in self.new ≡ take entries (buckets_in self.old) }
-        ensures width { width_in self.new ≡ width_in self.old }
-        ensures room { room_in self.new ≡ room_in self.old }
+        ensures { self.new ≡ with_buckets self.old (take entries (buckets_in self.old)) }
     {
-        while self.buckets.len() > entries {
+        while self.links.len() > entries {
             self.pop();
         }
     }
 
     pub fn clear(&mut self)
-        ensures entries { buckets_in self.new ≡ [] }
-        ensures width { width_in self.new ≡ width_in self.old }
-        ensures room { room_in self.new ≡ room_in self.old }
+        ensures { self.new ≡ with_buckets self.old [] }
     {
+        let width = self.heads.len();
         self.heads.clear();
-        let _ = self.heads.resize(self.width, None);
-        self.buckets.clear();
-        self.befores.clear();
+        let _ = self.heads.resize(width, None);
+        self.links.clear();
     }
 }

@@ -7,36 +7,29 @@ use stores::{Keeper, Refusal, Store};
 use terms::{Atom, Item, Node};
 use tree::PrefixTree;
 
-// 0, or the number of the refusal.
-fn number(answer: Result<(), Refusal>) -> u8 {
-    match answer {
-        Ok(()) => 0,
-        Err(refusal) => refusal.number(),
-    }
-}
+type Answer = Result<(), Refusal>;
 
 // Adds sentence i of those with so many atoms and items: 1,024 nodes have one each, then another, and so on.
-fn put<K: Keeper>(keeper: &mut K, i: u16, atoms: usize, items: usize) -> u8 {
+fn put<K: Keeper>(keeper: &mut K, i: u16, atoms: usize, items: usize) -> Answer {
     let left = [Atom(i / 1024); 40];
     let right = [Item::Atom(Atom(i / 1024)); 80];
     let atoms = atoms.min(40);
     let items = items.min(80);
-    number(keeper.add(Node(i % 1024), &left[0..atoms], &right[0..items]))
+    keeper.add(Node(i % 1024), &left[0..atoms], &right[0..items])
 }
 
-// Adds so many: 0 where all were taken, else a refusal's number.
-fn put_all<K: Keeper>(keeper: &mut K, count: u16, atoms: usize, items: usize) -> u8 {
-    let mut refused = 0;
+// Adds so many, and answers the last refusal.
+fn put_all<K: Keeper>(keeper: &mut K, count: u16, atoms: usize, items: usize) -> Answer {
+    let mut all = Ok(());
     for i in 0..count {
-        let answer = put(keeper, i, atoms, items);
-        if answer != 0 {
-            refused = answer;
+        if let Err(refusal) = put(keeper, i, atoms, items) {
+            all = Err(refusal);
         }
     }
-    refused
+    all
 }
 
-fn sentences<K: Keeper>(keeper: &mut K, most: u16) -> [u8; 3] {
+fn sentences<K: Keeper>(keeper: &mut K, most: u16) -> [Answer; 3] {
     keeper.clear();
     let before = most.saturating_sub(1);
     let a = put_all(keeper, before, 1, 0);
@@ -46,7 +39,7 @@ fn sentences<K: Keeper>(keeper: &mut K, most: u16) -> [u8; 3] {
 }
 
 // So many sentences of 32 atoms, the last with 31; then two of one atom, and one of none.
-fn atoms<K: Keeper>(keeper: &mut K, most: u16) -> [u8; 5] {
+fn atoms<K: Keeper>(keeper: &mut K, most: u16) -> [Answer; 5] {
     keeper.clear();
     let before = most.saturating_sub(1);
     let a = put_all(keeper, before, 32, 0);
@@ -58,7 +51,7 @@ fn atoms<K: Keeper>(keeper: &mut K, most: u16) -> [u8; 5] {
 }
 
 // So many sentences of 64 items, the last with 63; then two of one item, and one of none.
-fn items<K: Keeper>(keeper: &mut K, most: u16) -> [u8; 5] {
+fn items<K: Keeper>(keeper: &mut K, most: u16) -> [Answer; 5] {
     keeper.clear();
     let before = most.saturating_sub(1);
     let a = put_all(keeper, before, 0, 64);
@@ -72,19 +65,20 @@ fn items<K: Keeper>(keeper: &mut K, most: u16) -> [u8; 5] {
 // Whether node 7 is found to have a left path of one atom, and that to have one item.
 fn seven<K: Keeper>(keeper: &K) -> [bool; 3] {
     let path = [Atom(0), Atom(5)];
-    let found = match keeper.find(Node(7), &path) {
-        Some(n) => n == 1,
-        None => false,
-    };
+    let found = keeper.find(Node(7), &path) == Some(1);
     let first = keeper.item(Node(7), &path[0..1], 0).is_some();
     let second = keeper.item(Node(7), &path[0..1], 1).is_some();
     [found, first, second]
 }
 
-fn line(rt: &HostRuntime, name: &str, numbers: &[u8]) -> anyhow::Result<()> {
+// 0, or the number of the refusal, of each answer. Kept in each of two programs: a crate for one loop that prints is no plainer.
+fn line(rt: &HostRuntime, name: &str, answers: &[Answer]) -> anyhow::Result<()> {
     print!(rt; "{name}:")?;
-    for n in numbers {
-        print!(rt; " {n}")?;
+    for answer in answers {
+        match answer {
+            Ok(()) => print!(rt; " 0")?,
+            Err(refusal) => print!(rt; " {}", refusal.number())?,
+        }
     }
     println!(rt; "")?;
     Ok(())

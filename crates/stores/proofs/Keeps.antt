@@ -1,16 +1,13 @@
 -- One sentence more, and what add answers once refusals 4 to 8 let it pass.
 use Rattle.std.proofs.Common.{◌≡◌, ◌+◌, Bool, true, false, cond, not, ◌&&◌, List, [], ◌∷◌, ◌++◌, length, is_some, Some, None, Ok, Err, sym, refl, ap, ◌∙◌, add_assoc, arith}
-use Rattle.std.proofs.lemmas.Bool.{and_parts}
+use Rattle.std.proofs.lemmas.List.Folds.{list_all-append}
 use Rattle.terms.specs.Maps.{every}
 use Rattle.stores.specs.declared.refusals.Refusal.TheVariants as refused
 use Rattle.stores.specs.Sentences.{Sentence, map_of, atoms_in, items_in}
 use Rattle.stores.specs.Refusals.{unfit, Limits, over, or_else, refusal, answer, kept_after}
 
 pub every_push : {X : Type 0} (f : X → Bool) (xs : List X) (x : X) → every f xs ≡ true → f x ≡ true → every f (xs ++ x ∷ []) ≡ true
-every_push f [] x h e = ap (λ b. b && true) e
-every_push f (y ∷ xs) x h e =
-    let p = and_parts (f y) (every f xs) h in
-    ap (λ b. b && every f (xs ++ x ∷ [])) p.0 ∙ every_push f xs x p.1 e
+every_push f xs x h e = list_all-append f xs (x ∷ []) ∙ ap (λ b. b && (f x && true)) h ∙ ap (λ b. b && true) e
 
 pub atoms_push : (ss : List Sentence) (s : Sentence) → atoms_in (ss ++ s ∷ []) ≡ atoms_in ss + length s.left
 atoms_push [] s = omega arith

@@ -71,8 +71,6 @@ pub trait Keeper: Store {
 
 /// The items that are not refused as unbalanced are those of a list of terms, and of these the ones that are not refused as
 /// nested too deep are those of a list nested at most four deep.
-pub fn refused_items_are_no_terms() -> u8
+pub fn refused_items_are_no_terms()
     ensures { (PairedItemsAreTermLists) × (ShallowItemsNestFourDeep) }
-{
-    0
-}
+{}

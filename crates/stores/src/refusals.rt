@@ -5,30 +5,23 @@ ghost use Rattle.stores.specs.Refusals.{number};
 #[derive(Clone, Copy, PartialEq, Eq, Debug)]
 pub enum Refusal {
     /// Items that are not balanced, or a number out of range.
-    Malformed,
+    Malformed = 4,
     /// A path nested a fifth time.
-    TooDeep,
+    TooDeep = 5,
     /// A left path of over 32 atoms.
-    LeftTooLong,
+    LeftTooLong = 6,
     /// A right side of over 64 items.
-    RightTooLong,
+    RightTooLong = 7,
     /// The node and the left path have a sentence.
-    AlreadyKept,
+    AlreadyKept = 8,
     /// One of the keeper's limits would be passed.
-    Full,
+    Full = 9,
 }
 
 impl Refusal {
     pub fn number(self) -> u8
         ensures { result ≡ number self }
     {
-        match self {
-            Refusal::Malformed => 4,
-            Refusal::TooDeep => 5,
-            Refusal::LeftTooLong => 6,
-            Refusal::RightTooLong => 7,
-            Refusal::AlreadyKept => 8,
-            Refusal::Full => 9,
-        }
+        self as u8
     }
 }

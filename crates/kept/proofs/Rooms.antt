@@ -1,10 +1,10 @@
 -- What a limit that is not passed says.
-use Rattle.std.proofs.Common.{Bool, true, cond, Ok, Err, Result, refl, ◌≡◌, ℕ, ◌+◌, ◌≤◌, min, false, ◌||◌, ltb, List, length, ap, ◌∙◌, arith}
+use Rattle.std.proofs.Common.{Bool, true, cond, Ok, Err, Result, refl, ◌≡◌, ℕ, ◌+◌, ◌≤◌, min, false, ◌||◌, ltb, List, length, ap, arith}
 use Rattle.std.proofs.lemmas.Bool.{or_parts, ltb-false}
 use Rattle.stores.specs.Sentences.{Sentence, atoms_in, items_in}
 use Rattle.stores.specs.declared.refusals.Refusal.{Refusal}
 use Rattle.kept.specs.declared.Room.{Room}
-use Rattle.kept.specs.Held.{passes, smaller, limits_of}
+use Rattle.kept.specs.Held.{passes, smaller}
 
 pub record Within (k : Room) (ss : List Sentence) (a i : ℕ) : Type 0 where
   pub sentences : length ss + 1 ≤ k.sentences
@@ -29,17 +29,16 @@ within_smaller j k ss a i w =
     let z = w.items in
     record { sentences = omega arith; atoms = omega arith; items = omega arith }
 
--- limits that there is memory for
-min_same : (a b : ℕ) → b ≡ a → min a b ≡ a
-min_same a b e = omega arith
-
-pub smaller_limits : (s a i : ℕ) (m r : Room) → m ≡ record { sentences = s; atoms = a; items = i } → r.sentences ≡ s → r.atoms ≡ a → r.items ≡ i
-    → limits_of (smaller m r) ≡ record { sentences = s; atoms = a; items = i }
-smaller_limits s a i m r e x y z =
-    let p = min_same s r.sentences x in
-    let q = min_same a r.atoms y in
-    let t = min_same i r.items z in
-    ap (λ (k : Room). limits_of (smaller k r)) e ∙ (λ j. record { sentences = p j; atoms = q j; items = t j })
+-- the smaller of two rooms that are the same
+pub smaller_same : (m r : Room) → m ≡ r → smaller m r ≡ r
+smaller_same m r e =
+    let s = ap (λ (v : Room). v.sentences) e in
+    let a = ap (λ (v : Room). v.atoms) e in
+    let i = ap (λ (v : Room). v.items) e in
+    let s' : min m.sentences r.sentences ≡ r.sentences = omega arith in
+    let a' : min m.atoms r.atoms ≡ r.atoms = omega arith in
+    let i' : min m.items r.items ≡ r.items = omega arith in
+    λ j. record { sentences = s' j; atoms = a' j; items = i' j }
 
 -- what `put` keeps is within
 pub not_passed : (b : Bool) (e : Refusal) → ◌≡◌ {A = Result (Unit {0}) Refusal} (Ok tt) (cond b (Err e) (Ok tt)) → b ≡ false

@@ -4,10 +4,10 @@ ghost use Rattle.names.specs.Tables.{atoms_in};
 ghost use Rattle.engine.specs.States.{stop_of};
 ghost use Rattle.lines.specs.Bytes.{stop_bytes, placed_bytes};
 ghost use Rattle.lines.specs.Names.{names_of};
-ghost use Rattle.lines.specs.Lines.{question_spelled, word_bytes, said_by, answer_bytes, bytes_of};
+ghost use Rattle.lines.specs.Lines.{question_spelled, word_bytes, said_by, answer_bytes, refused_bytes, bytes_of};
 ghost use Rattle.lines.specs.Pages.{Spelled};
 
-use crate::content::{Answer, Content};
+use crate::content::{Answer, Content, Refused};
 use crate::known::node_name;
 use crate::spelling::{put, put_number, put_path, put_value};
 use engine::Stop;
@@ -75,19 +75,12 @@ fn put_placed(page: &mut [u8], at: usize, number: u8, place: usize) -> usize
     put(page, at, b"\n")
 }
 
-fn put_refused(
-    page: &mut [u8],
-    at: usize,
-    title: &[u8],
-    mark: &[u8],
-    number: u8,
-    place: usize,
-) -> usize
-    ensures { Spelled page.old at (title.now ++ (mark.now ++ placed_bytes number place)) result page.new }
+fn put_refused(page: &mut [u8], at: usize, refused: Refused) -> usize
+    ensures { Spelled page.old at (refused_bytes refused.entry) result page.new }
 {
-    let at = put(page, at, title);
-    let at = put(page, at, mark);
-    put_placed(page, at, number, place)
+    let at = put(page, at, refused.title);
+    let at = put(page, at, refused.mark);
+    put_placed(page, at, refused.number, refused.place)
 }
 
 /// Spells a line.
@@ -96,8 +89,6 @@ pub(crate) fn put_line(page: &mut [u8], at: usize, content: Content) -> usize
 {
     match content {
         Content::Answer(answer) => put_answer(page, at, answer),
-        Content::Refused(title, mark, number, place) => {
-            put_refused(page, at, title, mark, number, place)
-        }
+        Content::Refused(refused) => put_refused(page, at, refused),
     }
 }

@@ -7,6 +7,7 @@ ghost use Rattle.lines.specs.Pages.{Spelled};
 
 use crate::known::atom_name;
 use crate::quoting::is_bare;
+use itoa::Buffer;
 use names::Names;
 use terms::Atom;
 
@@ -25,11 +26,7 @@ pub(crate) fn put(page: &mut [u8], at: usize, bytes: &[u8]) -> usize
 pub(crate) fn put_number(page: &mut [u8], at: usize, n: usize) -> usize
     ensures { Spelled page.old at (decimal n) result page.new }
 {
-    if n < 10 {
-        return put(page, at, &[b'0' + n as u8]);
-    }
-    let at = put_number(page, at, n / 10);
-    put(page, at, &[b'0' + (n % 10) as u8])
+    put(page, at, Buffer::new().format(n).as_bytes())
 }
 
 /// Spells an atom's name, in quotes where it is not bare.
@@ -56,8 +53,8 @@ pub(crate) fn put_value(page: &mut [u8], at: usize, names: &Names, atoms: &[Atom
     ensures { Spelled page.old at (value_bytes (names_of (atoms_in names.now) atoms.now)) result page.new }
 {
     let mut at = at;
-    for a in atoms {
-        at = put_blank_and_atom(page, at, names, *a);
+    for atom in atoms {
+        at = put_blank_and_atom(page, at, names, *atom);
     }
     at
 }
@@ -66,9 +63,9 @@ pub(crate) fn put_value(page: &mut [u8], at: usize, names: &Names, atoms: &[Atom
 pub(crate) fn put_path(page: &mut [u8], at: usize, names: &Names, atoms: &[Atom]) -> usize
     ensures { Spelled page.old at (spaced (names_of (atoms_in names.now) atoms.now)) result page.new }
 {
-    if atoms.is_empty() {
+    let Some((first, rest)) = atoms.split_first() else {
         return at;
-    }
-    let at = put_atom(page, at, atom_name(names, atoms[0]));
-    put_value(page, at, names, &atoms[1..])
+    };
+    let at = put_atom(page, at, atom_name(names, *first));
+    put_value(page, at, names, rest)
 }

@@ -16,8 +16,8 @@ fn is_blank(b: u8) -> bool
     matches!(class_of(b), ByteClass::Blank)
 }
 
-// Whether a byte goes on with an unquoted name.
-fn is_of_bare_name(b: u8) -> bool
+/// Whether a byte goes on with an unquoted name.
+pub fn is_of_bare_name(b: u8) -> bool
     ensures { result ≡ of_name false b }
 {
     matches!(class_of(b), ByteClass::Capital | ByteClass::Plain)

@@ -1,17 +1,16 @@
-use Rattle.std.proofs.Common.{sym, arith}
+use Rattle.std.proofs.Common.{◌≡◌, ◌∷◌, ◌++◌, sym, ap, ◌∙◌, arith}
+use Rattle.std.proofs.lemmas.Grind.{common_steps}
 use Rattle.names.specs.Tables.{atoms_in}
-use Rattle.lines.proofs.Spelled.{none, then, spells}
-use Rattle.lines.proofs.Values.{no_atoms, first_and_rest}
+use Rattle.lines.specs.Bytes.{atom_bytes, value_bytes, spaced}
+use Rattle.lines.specs.Names.{names_of}
+use Rattle.lines.proofs.Spelled.{then, spells}
 use Rattle.lines.proofs.spelling.put_path.Goals as goal
-
-pub returns-then-is_empty : goal.returns-then-is_empty
-returns-then-is_empty c =
-    spells (no_atoms (atoms_in c.args.names.now) c.args.atoms.now (sym c.if-is_empty.ensures))
-    (none c.args.page.now c.args.at (omega arith))
 
 pub returns : goal.returns
 returns c =
+    let names = atoms_in c.args.names.now in
+    let rest = c.in-Some.rest.now in
+    let e : c.args.atoms.now ≡ c.in-Some.first.now ∷ rest = grind (arith, common_steps) in
     spells
-    (first_and_rest (atoms_in c.args.names.now) c.args.atoms.now (record { 0 = 0 }) c.atom_name.result.now (sym c.if-is_empty.ensures)
-    c.atom_name.ensures)
+    (ap (λ x. atom_bytes x ++ value_bytes (names_of names rest)) c.atom_name.ensures ∙ sym (ap (λ l. spaced (names_of names l)) e))
     (then (omega arith) c.put_atom-at.auto.page c.put_atom-at.ensures c.put_value.ensures)

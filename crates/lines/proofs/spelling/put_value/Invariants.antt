@@ -5,5 +5,5 @@ use Rattle.lines.specs.Names.{names_of}
 use Rattle.lines.specs.Pages.{Spelled}
 use Rattle.lines.proofs.spelling.put_value.Given as goal
 
-abbrev pub invariant-loop-a : goal.invariant-loop-a
-invariant-loop-a l = Spelled l.initial.page l.initial.at (value_bytes (names_of (atoms_in l.names) (take l.a-index l.atoms))) l.at l.page
+abbrev pub invariant-loop-atom : goal.invariant-loop-atom
+invariant-loop-atom l = Spelled l.initial.page l.initial.at (value_bytes (names_of (atoms_in l.names) (take l.atom-index l.atoms))) l.at l.page

@@ -1,17 +1,12 @@
 // The faults of a line, and those below it that it carries.
 ghost use Rattle.std.specs.Prelude.{◌≡◌};
-ghost use Rattle.questions.specs.declared.faults.LineFault.TheVariants as fault;
+ghost use Rattle.questions.specs.declared.line_fault.LineFault.TheVariants as fault;
 ghost use Rattle.questions.specs.Refusals.{number, place};
 
+use faults::NameFault;
 use words::WordFault;
 
-/// A new name, where there is no number left.
-#[derive(Clone, Copy)]
-pub struct NameFault {
-    pub place: usize,
-}
-
-#[derive(Clone, Copy)]
+#[derive(Clone, Copy, PartialEq, Eq, Debug)]
 pub enum LineFault {
     /// More bytes than a line may have.
     LineTooLong,

@@ -3,25 +3,15 @@ use Rattle.std.proofs.lemmas.List.{length-map}
 use Rattle.std.proofs.lemmas.Bool.{cond-true}
 use Rattle.names.specs.Parts.{parts_of, in_order}
 use Rattle.names.specs.Held.{names_in}
-use Rattle.names.proofs.Laws.{span, ordered_grown, names_push, too_long, no_more, refused_names, there_names, new_names}
+use Rattle.names.proofs.Laws.{span, ordered_grown, names_push, there_names, new_names}
 use Rattle.chains.specs.Held.{buckets_in, width_in}
 use Rattle.names.proofs.Apart.{table_push}
 use Rattle.names.proofs.table.NameTable.intern.Goals as goal
-
-pub returns-then-name-gt-NAME_BYTES : goal.returns-then-name-gt-NAME_BYTES
-returns-then-name-gt-NAME_BYTES c =
-    let r = refused_names _ _ _ (too_long c.args.self.now.limit (names_in c.args.self.now) c.args.name.now (omega arith)) in
-    record { gives = r.0; names = r.1; limit = refl }
 
 pub returns-then-n-len : goal.returns-then-n-len
 returns-then-n-len c =
     let l : length (names_in c.args.self.now) ≡ vec_len c.args.self.now.parts = search (rules, length-map) in
     let r = there_names c.args.self.now.limit (names_in c.args.self.now) c.args.name.now (omega arith) (omega arith) c.number-n.result c.number-n.ensures (omega arith) in
-    record { gives = r.0; names = r.1; limit = refl }
-
-pub returns-then-n-self : goal.returns-then-n-self
-returns-then-n-self c =
-    let r = refused_names _ _ _ (no_more c.args.self.now.limit (names_in c.args.self.now) c.args.name.now (omega arith) (omega (arith, c.number-n.ensures))) in
     record { gives = r.0; names = r.1; limit = refl }
 
 pub invariant_of-self : goal.invariant_of-self

@@ -1,6 +1,5 @@
 use Rattle.std.proofs.Common.{◌≡◌, ℕ, ◌<◌, length, take, vec_items, vec_len, ap, ◌∙◌, arith, rules}
 use lib.ListN.{length-map}
-use Rattle.std.proofs.lemmas.List.{take_all}
 use Rattle.chains.specs.Held.{buckets_in, width_in}
 use Rattle.names.specs.declared.part.Part.{Part}
 use Rattle.names.specs.Parts.{part_of, parts_of}
@@ -35,6 +34,3 @@ pub returns-then-n-len : goal.returns-then-n-len
 returns-then-n-len c =
     let t = c.args.self.now in
     let l : c.args.n < length (vec_items t.parts) = omega (arith, length-map (vec_items t.parts) (part_of (vec_items t.bytes))) in search (rules, names_take)
-
-pub returns-else-n-len : goal.returns-else-n-len
-returns-else-n-len c = search (rules, length-map, take_all)

@@ -18,6 +18,10 @@ pub items_push : (ss : List Sentence) (s : Sentence) → items_in (ss ++ s ∷ [
 items_push [] s = omega arith
 items_push (x ∷ ss) s = ap (λ k. length x.right + k) (items_push ss s) ∙ sym (add_assoc (length x.right) (items_in ss) (length s.right))
 
+pub answered : (o : Option Refusal) → Ok tt ≡ answer o → o ≡ None
+answered None h = refl
+answered (Some f) h = absurd (let z : ◌≡◌ {A = ℕ} 0 1 = cc in omega arith)
+
 -- ---- what add answers and keeps, by how far it comes
 module _ (k : Limits) (ss : List Sentence) (s : Sentence) where
   abbrev pub Added : Result (Unit {0}) Refusal → List Sentence → Type 0
@@ -33,13 +37,9 @@ module _ (k : Limits) (ss : List Sentence) (s : Sentence) where
           let r : refusal k ss s ≡ Some f = ap (λ o. or_else o (cond (is_some (map_of ss s.node s.left)) (Some refused.AlreadyKept) (cond (over k ss s) (Some refused.Full) None))) q in
           (h ∙ sym (ap answer r), sym (ap (λ o. kept_after o ss s) r))
 
-  fit_none : (o : Option Refusal) → Ok tt ≡ answer o → o ≡ None
-  fit_none None h = refl
-  fit_none (Some f) h = absurd (let z : ◌≡◌ {A = ℕ} 0 1 = cc in omega arith)
-
   behind : (b : Bool) → Ok tt ≡ answer (unfit s) → is_some (map_of ss s.node s.left) ≡ b → refusal k ss s ≡ cond b (Some refused.AlreadyKept) (cond (over k ss s) (Some refused.Full) None)
   behind b h t =
-      ap (λ o. or_else o (cond (is_some (map_of ss s.node s.left)) (Some refused.AlreadyKept) (cond (over k ss s) (Some refused.Full) None))) (fit_none (unfit s) h)
+      ap (λ o. or_else o (cond (is_some (map_of ss s.node s.left)) (Some refused.AlreadyKept) (cond (over k ss s) (Some refused.Full) None))) (answered (unfit s) h)
       ∙ ap (λ v. cond v (Some refused.AlreadyKept) (cond (over k ss s) (Some refused.Full) None)) t
 
   -- where the pair has a sentence

@@ -31,17 +31,6 @@ only_equals (Ok w.Stray) e = absurd (grind arith)
 only_equals (Ok w.End) e = absurd (grind arith)
 only_equals (Err x) e = absurd (grind arith)
 
-pub one_equals : (s : ℕ) (k : Result Word WordRefusal) (R S : Stream) → k ≡ Ok w.Equals → size S ≡ size R → size (cons s k R) ≡ suc (size S)
-unfolding size
-one_equals s k R S c e = ap (λ (j : Result Word WordRefusal). size (cons s j R)) c ∙ ap suc (sym e)
-
-pub fewer_atom : (s : ℕ) (k : Result Word WordRefusal) (R : Stream) (a : Atom) → Ok (w.Atom a) ≡ k → size (cons s k R) ≡ suc (size R)
-unfolding size
-fewer_atom s k R a c = ap (λ (j : Result Word WordRefusal). size (cons s j R)) (sym c)
-
-pub one_atom : (s : ℕ) (k : Result Word WordRefusal) (R S : Stream) (a : Atom) → Ok (w.Atom a) ≡ k → size S ≡ size R → size (cons s k R) ≡ suc (size S)
-one_atom s k R S a c e = fewer_atom s k R a c ∙ ap suc (sym e)
-
 module _ (l : Limits) (f : Front) (s : ℕ) (k : Result Word WordRefusal) (R : Stream) where
   pub at_less : is_less_lem k ≡ true → load l (cons s k R) (body f) ≡ load l R (lefting f s [])
   at_less e = ap (λ (j : Result Word WordRefusal). load l (cons s j R) (body f)) (Runs.only_less k e) ∙ Runs.on l s T.Less R (body f) (lefting f s []) refl (omega arith) refl

@@ -278,22 +278,42 @@ fewer_start s (Ok w.Stray) R n = absurd (grind arith)
 fewer_start s (Ok w.End) R n = absurd (grind arith)
 fewer_start s (Err x) R n = absurd (grind arith)
 
-pub fewer_less : (s : ℕ) (k : Result Word WordRefusal) (R : Stream) → is_less_lem k ≡ true → size (cons s k R) ≡ suc (size R)
-unfolding size
-fewer_less s k R e = ap (λ (j : Result Word WordRefusal). size (cons s j R)) (only_less k e)
+abbrev pub is_word : Word → Bool
+is_word (w.Atom a) = true
+is_word w.UnnumberedAtom = true
+is_word (w.Node n) = true
+is_word w.UnnumberedNode = true
+is_word w.Less = true
+is_word w.Greater = true
+is_word w.Quote = true
+is_word w.Colon = true
+is_word w.Equals = true
+is_word w.Stop = true
+is_word w.Open = true
+is_word w.Close = true
+is_word w.Stray = true
+is_word w.End = false
 
-pub fewer_colon : (s : ℕ) (k : Result Word WordRefusal) (R : Stream) → k ≡ Ok w.Colon → size (cons s k R) ≡ suc (size R)
+-- the same, where what is behind has become as long a stream
+pub one_word : (s : ℕ) (k : Result Word WordRefusal) (v : Word) (R S : Stream) → k ≡ Ok v → is_word v ≡ true → size S ≡ size R → size (cons s k R) ≡ suc (size S)
 unfolding size
-fewer_colon s k R e = ap (λ (j : Result Word WordRefusal). size (cons s j R)) e
+one_word s k v R S e c q = ap (λ (j : Result Word WordRefusal). size (cons s j R)) e ∙ counts v c ∙ ap suc (sym q)
+  where
+    counts : (v : Word) → is_word v ≡ true → size (cons s (Ok v) R) ≡ suc (size R)
+    counts (w.Atom a) c = refl
+    counts w.UnnumberedAtom c = refl
+    counts (w.Node n) c = refl
+    counts w.UnnumberedNode c = refl
+    counts w.Less c = refl
+    counts w.Greater c = refl
+    counts w.Quote c = refl
+    counts w.Colon c = refl
+    counts w.Equals c = refl
+    counts w.Stop c = refl
+    counts w.Open c = refl
+    counts w.Close c = refl
+    counts w.Stray c = refl
+    counts w.End c = absurd (grind arith)
 
-pub fewer_quote : (s : ℕ) (k : Result Word WordRefusal) (R : Stream) → k ≡ Ok w.Quote → size (cons s k R) ≡ suc (size R)
-unfolding size
-fewer_quote s k R e = ap (λ (j : Result Word WordRefusal). size (cons s j R)) e
-
-pub fewer_greater : (s : ℕ) (k : Result Word WordRefusal) (R : Stream) → k ≡ Ok w.Greater → size (cons s k R) ≡ suc (size R)
-unfolding size
-fewer_greater s k R e = ap (λ (j : Result Word WordRefusal). size (cons s j R)) e
-
-pub fewer_node : (s : ℕ) (k : Result Word WordRefusal) (R : Stream) (n : Node) → Ok (w.Node n) ≡ k → size (cons s k R) ≡ suc (size R)
-unfolding size
-fewer_node s k R n e = ap (λ (j : Result Word WordRefusal). size (cons s j R)) (sym e)
+pub one_start : (s : ℕ) (k : Result Word WordRefusal) (R S : Stream) → starts k ≡ true → size S ≡ size R → size (cons s k R) ≡ suc (size S)
+one_start s k R S c q = fewer_start s k R c ∙ ap suc (sym q)

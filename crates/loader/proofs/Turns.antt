@@ -126,24 +126,6 @@ path_inside left q n s k R S₁ S₂ F F₁ F₂ out₁ out₂ c m e x l h r f b
 pub path_items : (q : Quoting) (n : Option Node) (i : Terms) (out out₁ out₂ out₃ : List Item) → out₁ ≡ out ++ opening q n ∷ [] → out₂ ≡ out₁ ++ flat i → out₃ ≡ out₂ ++ close ∷ [] → out₃ ≡ out ++ flat (path q n i done)
 path_items q n i out out₁ out₂ out₃ a b c = c ∙ ap (λ (m : List Item). m ++ close ∷ []) (b ∙ ap (λ (m : List Item). m ++ flat i) a) ∙ simp (append_assoc, cons_items)
 
-pub one_less : (s : ℕ) (k : Result Word WordRefusal) (R S : Stream) → is_less_lem k ≡ true → size S ≡ size R → size (cons s k R) ≡ suc (size S)
-one_less s k R S c e = Runs.fewer_less s k R c ∙ ap suc (sym e)
-
-pub one_colon : (s : ℕ) (k : Result Word WordRefusal) (R S : Stream) → k ≡ Ok w.Colon → size S ≡ size R → size (cons s k R) ≡ suc (size S)
-one_colon s k R S c e = Runs.fewer_colon s k R c ∙ ap suc (sym e)
-
-pub one_quote : (s : ℕ) (k : Result Word WordRefusal) (R S : Stream) → k ≡ Ok w.Quote → size S ≡ size R → size (cons s k R) ≡ suc (size S)
-one_quote s k R S c e = Runs.fewer_quote s k R c ∙ ap suc (sym e)
-
-pub one_greater : (s : ℕ) (k : Result Word WordRefusal) (R S : Stream) → k ≡ Ok w.Greater → size S ≡ size R → size (cons s k R) ≡ suc (size S)
-one_greater s k R S c e = Runs.fewer_greater s k R c ∙ ap suc (sym e)
-
-pub one_start : (s : ℕ) (k : Result Word WordRefusal) (R S : Stream) → starts k ≡ true → size S ≡ size R → size (cons s k R) ≡ suc (size S)
-one_start s k R S c e = Runs.fewer_start s k R c ∙ ap suc (sym e)
-
-pub one_node : (s : ℕ) (k : Result Word WordRefusal) (R S : Stream) (n : Node) → Ok (w.Node n) ≡ k → size S ≡ size R → size (cons s k R) ≡ suc (size S)
-one_node s k R S n c e = Runs.fewer_node s k R n c ∙ ap suc (sym e)
-
 -- a path up to behind its >
 module _ (left : ℕ) (q : Quoting) (n : Option Node) (s : ℕ) (k : Result Word WordRefusal) (R S₁ : Stream) (F F₁ F₂ F₃ : Names) (out out₁ out₂ out₃ : List Item) (s₃ : ℕ) (k₃ : Result Word WordRefusal) (R₃ S₃ : Stream) (c : is_less_lem k ≡ true) (m : 1 ≤ left) (e : Moves R F S₁ F₁) (x : Through (left - 1) ready S₁ F₁ out₁ (cons s₃ k₃ R₃) F₂ out₂) (g : k₃ ≡ Ok w.Greater) (e₃ : Moves R₃ F₂ S₃ F₃) (i₁ : out₁ ≡ out ++ opening q n ∷ []) (i₃ : out₃ ≡ out₂ ++ close ∷ []) (named : item_in_range (opening q n) ≡ true) where
   to_close : (l : Limits) (h : Head) (r : Bool) (f : Frames) (b : Terms) → open_paths f + left ≡ 4 → gives l (cons s k R) F (side h r (entering q n) f b) ≡ gives l S₃ F₃ (Runs.closing l h r f b s₃ k₃ R₃ q n s x.terms)

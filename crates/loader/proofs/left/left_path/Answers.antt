@@ -7,13 +7,14 @@ use Rattle.lookahead.specs.Ahead.{names_of, rest, final, later, gives}
 use Rattle.lookahead.proofs.Growth
 use Rattle.lookahead.specs.declared.word.Word.TheVariants as w
 use Rattle.lookahead.specs.Ended.{number_in_range}
+use Rattle.loader.proofs.Runs
 use Rattle.loader.proofs.Turns
 use Rattle.loader.proofs.Lefts
 use Rattle.loader.proofs.left.left_path.Goals as goal
 
 pub loop-p-init : goal.loop-p-init
 loop-p-init c =
-    let z = Turns.one_less c.args.p.now.place c.args.p.now.word _ _ c.requires.starts c.advance.ensures.size in (
+    let z = Runs.one_word c.args.p.now.place c.args.p.now.word w.Less _ _ (Runs.only_less _ c.requires.starts) refl c.advance.ensures.size in (
       (λ m f s. ap (λ (ls : List Atom). gives m (rest (names_of c.advance.new.names) c.advance.new.self) (final (names_of c.advance.new.names) c.advance.new.self) (lefting f s ls)) (sym c.clear.ensures.items)),
       ap (every atom_in_range) c.clear.ensures.items,
       Growth.still _,
@@ -34,18 +35,18 @@ returns-in-Ok-UnnumberedAtom c =
 pub push_reserved-requires : goal.push_reserved-requires
 push_reserved-requires c =
     let q : c.loop-p.p.word ≡ Ok (w.Atom c.in-Ok-Atom.a) = search rules in
-    let z = Lefts.fewer_atom c.loop-p.p.place c.loop-p.p.word (later (names_of c.loop-p.names) c.loop-p.p) c.in-Ok-Atom.a (sym q) in omega (arith, c.loop-p.invariant.4)
+    let z = Runs.one_word c.loop-p.p.place c.loop-p.p.word (w.Atom c.in-Ok-Atom.a) (later (names_of c.loop-p.names) c.loop-p.p) (later (names_of c.loop-p.names) c.loop-p.p) q refl refl in omega (arith, c.loop-p.invariant.4)
 
 pub loop-p-smaller : goal.loop-p-smaller
 loop-p-smaller c =
     let q : c.loop-p.p.word ≡ Ok (w.Atom c.in-Ok-Atom.a) = search rules in
-    let z = Lefts.one_atom c.loop-p.p.place c.loop-p.p.word _ _ c.in-Ok-Atom.a (sym q) c.advance-in-Ok-Atom.ensures.size in
+    let z = Runs.one_word c.loop-p.p.place c.loop-p.p.word (w.Atom c.in-Ok-Atom.a) _ _ q refl c.advance-in-Ok-Atom.ensures.size in
     omega arith
 
 pub loop-p-preserved : goal.loop-p-preserved
 loop-p-preserved c =
     let q : c.loop-p.p.word ≡ Ok (w.Atom c.in-Ok-Atom.a) = search rules in
-    let z = Lefts.one_atom c.loop-p.p.place c.loop-p.p.word _ _ c.in-Ok-Atom.a (sym q) c.advance-in-Ok-Atom.ensures.size in (
+    let z = Runs.one_word c.loop-p.p.place c.loop-p.p.word (w.Atom c.in-Ok-Atom.a) _ _ q refl c.advance-in-Ok-Atom.ensures.size in (
       (λ m f s. c.loop-p.invariant.0 m f s ∙ Turns.with_names _ (Lefts.at_atom m f _ _ _ s _ c.in-Ok-Atom.a (sym q) (sym (ap number_in_range q) ∙ c.loop-p.p.numbered)) ∙ c.advance-in-Ok-Atom.ensures.moves m (lefting f s (vec_items c.loop-p.left ++ c.in-Ok-Atom.a ∷ [])) ∙ ap (λ (ls : List Atom). gives m (rest (names_of c.advance-in-Ok-Atom.new.names) c.advance-in-Ok-Atom.new.self) (final (names_of c.advance-in-Ok-Atom.new.names) c.advance-in-Ok-Atom.new.self) (lefting f s ls)) (sym c.push_reserved.ensures.items)),
       ap (every atom_in_range) c.push_reserved.ensures.items ∙ Lefts.every_more (vec_items c.loop-p.left) c.in-Ok-Atom.a c.loop-p.invariant.1 (sym (ap number_in_range q) ∙ c.loop-p.p.numbered),
       Growth.on _ _ _ c.loop-p.invariant.2 c.advance-in-Ok-Atom.ensures.grows,
@@ -80,9 +81,9 @@ pub returns : goal.returns
 returns c =
     let g : c.loop-p.p.word ≡ Ok w.Greater = search rules in
     let q : c.advance-in-Ok-Greater.new.self.word ≡ Ok w.Equals = search rules in
-    let z₁ = Turns.one_less c.args.p.now.place c.args.p.now.word _ _ c.requires.starts c.advance.ensures.size in
-    let z₂ = Turns.one_greater c.loop-p.p.place c.loop-p.p.word _ _ g c.advance-in-Ok-Greater.ensures.size in
-    let z₃ = Lefts.one_equals c.advance-in-Ok-Greater.new.self.place c.advance-in-Ok-Greater.new.self.word _ _ q c.advance-2.ensures.size in
+    let z₁ = Runs.one_word c.args.p.now.place c.args.p.now.word w.Less _ _ (Runs.only_less _ c.requires.starts) refl c.advance.ensures.size in
+    let z₂ = Runs.one_word c.loop-p.p.place c.loop-p.p.word w.Greater _ _ g refl c.advance-in-Ok-Greater.ensures.size in
+    let z₃ = Runs.one_word c.advance-in-Ok-Greater.new.self.place c.advance-in-Ok-Greater.new.self.word w.Equals _ _ q refl c.advance-2.ensures.size in
     record {
       goes = record {
         in_range = c.loop-p.invariant.1;

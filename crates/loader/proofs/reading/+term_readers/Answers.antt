@@ -31,13 +31,13 @@ named_path-returns-in-Ok-Less t c = record { goes = Turns.path_term _ _ _ _ _ _ 
 pub after_node-named_path-requires : goal.after_node-named_path-requires
 after_node-named_path-requires t c =
     let q : c.args.p.now.word ≡ Ok w.Colon = search rules in
-    let z = Turns.one_colon c.args.p.now.place c.args.p.now.word _ _ q c.advance.ensures.size in
+    let z = Runs.one_word c.args.p.now.place c.args.p.now.word w.Colon _ _ q refl c.advance.ensures.size in
     (search rules, (omega arith, (c.requires.depth, c.requires.named)))
 
 pub after_node-returns-in-Ok-Colon : goal.after_node-returns-in-Ok-Colon
 after_node-returns-in-Ok-Colon t c =
     let q : c.args.p.now.word ≡ Ok w.Colon = search rules in
-    let z = Turns.one_colon c.args.p.now.place c.args.p.now.word _ _ q c.advance.ensures.size in
+    let z = Runs.one_word c.args.p.now.place c.args.p.now.word w.Colon _ _ q refl c.advance.ensures.size in
     record {
       goes = Turns.word_first _ _ _ _ _ _ _ _ _ _ _ _ _ c.advance.ensures.moves (λ l h r f b d. Runs.at_colon l h r f b _ _ _ _ q d) c.named_path.ensures.goes;
       grows = Growth.on _ _ _ c.advance.ensures.grows c.named_path.ensures.grows;
@@ -69,7 +69,7 @@ after_quote-returns-in-Ok-UnnumberedNode t c =
 pub after_quote-after_quoted_node-requires : goal.after_quote-after_quoted_node-requires
 after_quote-after_quoted_node-requires t c =
     let q : c.args.p.now.word ≡ Ok (w.Node c.in-Ok-Node.n) = search rules in
-    let z = Turns.one_node c.args.p.now.place c.args.p.now.word _ _ c.in-Ok-Node.n (sym q) c.advance.ensures.size in
+    let z = Runs.one_word c.args.p.now.place c.args.p.now.word (w.Node c.in-Ok-Node.n) _ _ q refl c.advance.ensures.size in
     (search rules, (omega arith, (c.requires.depth, sym (ap number_in_range q) ∙ c.args.p.now.numbered)))
 
 pub after_quote-returns-in-Ok-Less : goal.after_quote-returns-in-Ok-Less
@@ -79,7 +79,7 @@ pub after_quote-returns-in-Ok-Node : goal.after_quote-returns-in-Ok-Node
 after_quote-returns-in-Ok-Node t c =
     let e : c.args.p.now.word ≡ Ok (w.Node c.in-Ok-Node.n) = search rules in
     let q = sym e in
-    let z = Turns.one_node c.args.p.now.place c.args.p.now.word _ _ c.in-Ok-Node.n q c.advance.ensures.size in
+    let z = Runs.one_word c.args.p.now.place c.args.p.now.word (w.Node c.in-Ok-Node.n) _ _ e refl c.advance.ensures.size in
     record {
       goes = Turns.word_first _ _ _ _ _ _ _ _ _ _ _ _ _ c.advance.ensures.moves (λ l h r f b d. Runs.at_quoted_node l h r f b _ _ _ _ q (sym (ap number_in_range e) ∙ c.args.p.now.numbered) d) c.after_quoted_node.ensures.goes;
       grows = Growth.on _ _ _ c.advance.ensures.grows c.after_quoted_node.ensures.grows;
@@ -103,13 +103,13 @@ after_quote-returns-in_default t c =
 pub after_quoted_node-named_path-requires : goal.after_quoted_node-named_path-requires
 after_quoted_node-named_path-requires t c =
     let q : c.args.p.now.word ≡ Ok w.Colon = search rules in
-    let z = Turns.one_colon c.args.p.now.place c.args.p.now.word _ _ q c.advance.ensures.size in
+    let z = Runs.one_word c.args.p.now.place c.args.p.now.word w.Colon _ _ q refl c.advance.ensures.size in
     (search rules, (omega arith, (c.requires.depth, c.requires.named)))
 
 pub after_quoted_node-returns-in-Ok-Colon : goal.after_quoted_node-returns-in-Ok-Colon
 after_quoted_node-returns-in-Ok-Colon t c =
     let q : c.args.p.now.word ≡ Ok w.Colon = search rules in
-    let z = Turns.one_colon c.args.p.now.place c.args.p.now.word _ _ q c.advance.ensures.size in
+    let z = Runs.one_word c.args.p.now.place c.args.p.now.word w.Colon _ _ q refl c.advance.ensures.size in
     record {
       goes = Turns.word_first _ _ _ _ _ _ _ _ _ _ _ _ _ c.advance.ensures.moves (λ l h r f b d. Runs.at_quoted_colon l h r f b _ _ _ _ q d) c.named_path.ensures.goes;
       grows = Growth.on _ _ _ c.advance.ensures.grows c.named_path.ensures.grows;
@@ -132,7 +132,7 @@ after_quoted_node-returns-in_default t c =
 pub after_quoted_node-returns-in-Ok-Quote : goal.after_quoted_node-returns-in-Ok-Quote
 after_quoted_node-returns-in-Ok-Quote t c =
     let q : c.args.p.now.word ≡ Ok w.Quote = search rules in
-    let z = Turns.one_quote c.args.p.now.place c.args.p.now.word _ _ q c.advance-in-Ok-Quote.ensures.size in
+    let z = Runs.one_word c.args.p.now.place c.args.p.now.word w.Quote _ _ q refl c.advance-in-Ok-Quote.ensures.size in
     record {
       goes = Turns.one_term _ _ (node quoted c.args.node done) (and_from _ _ c.requires.named refl) (omega arith) _ _ _ _ _ _ _ c.advance-in-Ok-Quote.ensures.moves c.push_reserved.ensures.items (λ l h r f b d. Runs.at_node_end l h r f b _ _ _ _ q d);
       grows = c.advance-in-Ok-Quote.ensures.grows;
@@ -151,11 +151,11 @@ path-returns-then-left-eq0 t c = record {
 }
 
 pub path-push_reserved-requires : goal.path-push_reserved-requires
-path-push_reserved-requires t c = omega (arith, Runs.fewer_less c.args.p.now.place c.args.p.now.word (later (names_of c.args.names.now) c.args.p.now) c.requires.starts)
+path-push_reserved-requires t c = omega (arith, Runs.one_word c.args.p.now.place c.args.p.now.word w.Less (later (names_of c.args.names.now) c.args.p.now) (later (names_of c.args.names.now) c.args.p.now) (Runs.only_less _ c.requires.starts) refl refl)
 
 pub path-terms-requires : goal.path-terms-requires
 path-terms-requires t c =
-    let z = Turns.one_less c.args.p.now.place c.args.p.now.word _ _ c.requires.starts c.advance.ensures.size in
+    let z = Runs.one_word c.args.p.now.place c.args.p.now.word w.Less _ _ (Runs.only_less _ c.requires.starts) refl c.advance.ensures.size in
     (search rules, (omega (arith, c.push_reserved.ensures.len, c.push_reserved.ensures.capacity), omega arith))
 
 pub path-returns-in_err-terms : goal.path-returns-in_err-terms
@@ -185,16 +185,16 @@ pub path-push_reserved-requires-2 : goal.path-push_reserved-requires-2
 path-push_reserved-requires-2 t c =
     let e : c.terms.new.p.word ≡ Ok w.Greater = search rules in
     let told = c.in_ok-terms.ensures in
-    let z = Turns.one_less c.args.p.now.place c.args.p.now.word _ _ c.requires.starts c.advance.ensures.size in
-    let g = Runs.fewer_greater c.terms.new.p.place c.terms.new.p.word (later (names_of c.terms.new.names) c.terms.new.p) e in
+    let z = Runs.one_word c.args.p.now.place c.args.p.now.word w.Less _ _ (Runs.only_less _ c.requires.starts) refl c.advance.ensures.size in
+    let g = Runs.one_word c.terms.new.p.place c.terms.new.p.word w.Greater (later (names_of c.terms.new.names) c.terms.new.p) (later (names_of c.terms.new.names) c.terms.new.p) e refl refl in
     omega (arith, told.each refl, told.capacity, c.requires.room, c.push_reserved.ensures.len, c.push_reserved.ensures.capacity)
 
 pub path-returns-in-Plain : goal.path-returns-in-Plain
 path-returns-in-Plain t c =
     let told = c.in_ok-terms.ensures in
     let g : c.terms.new.p.word ≡ Ok w.Greater = search rules in
-    let z₁ = Turns.one_less c.args.p.now.place c.args.p.now.word _ _ c.requires.starts c.advance.ensures.size in
-    let z₂ = Turns.one_greater c.terms.new.p.place c.terms.new.p.word _ _ g c.advance-2.ensures.size in
+    let z₁ = Runs.one_word c.args.p.now.place c.args.p.now.word w.Less _ _ (Runs.only_less _ c.requires.starts) refl c.advance.ensures.size in
+    let z₂ = Runs.one_word c.terms.new.p.place c.terms.new.p.word w.Greater _ _ g refl c.advance-2.ensures.size in
     record {
       goes = Turns.path_plain c.args.left c.args.quoting c.args.node _ _ _ _ _ _ _ _ _ _ _ _ _ _ _ _ c.requires.starts (omega arith) c.advance.ensures.moves told.goes g c.advance-2.ensures.moves c.push_reserved.ensures.items c.push_reserved-2.ensures.items c.requires.named c.in-Plain.is;
       grows = Growth.on _ _ _ (Growth.on _ _ _ c.advance.ensures.grows told.grows) c.advance-2.ensures.grows;
@@ -207,8 +207,8 @@ pub path-returns-in-Quoted : goal.path-returns-in-Quoted
 path-returns-in-Quoted t c =
     let told = c.in_ok-terms.ensures in
     let g : c.terms.new.p.word ≡ Ok w.Greater = search rules in
-    let z₁ = Turns.one_less c.args.p.now.place c.args.p.now.word _ _ c.requires.starts c.advance.ensures.size in
-    let z₂ = Turns.one_greater c.terms.new.p.place c.terms.new.p.word _ _ g c.advance-2.ensures.size in
+    let z₁ = Runs.one_word c.args.p.now.place c.args.p.now.word w.Less _ _ (Runs.only_less _ c.requires.starts) refl c.advance.ensures.size in
+    let z₂ = Runs.one_word c.terms.new.p.place c.terms.new.p.word w.Greater _ _ g refl c.advance-2.ensures.size in
     record {
       goes = Turns.path_quoted c.args.left c.args.quoting c.args.node _ _ _ _ _ _ _ _ _ _ _ _ _ _ _ _ c.requires.starts (omega arith) c.advance.ensures.moves told.goes g c.advance-2.ensures.moves c.push_reserved.ensures.items c.push_reserved-2.ensures.items c.requires.named _ _ _ c.in-Quoted.is c.end_quote.ensures.goes;
       grows = Growth.on _ _ _ (Growth.on _ _ _ (Growth.on _ _ _ c.advance.ensures.grows told.grows) c.advance-2.ensures.grows) c.end_quote.ensures.grows;
@@ -248,7 +248,7 @@ pub unopened-returns-in-Ok-Atom : goal.unopened-returns-in-Ok-Atom
 unopened-returns-in-Ok-Atom t c =
     let q : c.args.p.now.word ≡ Ok (w.Atom c.in-Ok-Atom.a) = search rules in
     let n = sym (ap number_in_range q) ∙ c.args.p.now.numbered in
-    let z = Turns.one_start c.args.p.now.place c.args.p.now.word _ _ c.requires.starts c.advance.ensures.size in
+    let z = Runs.one_start c.args.p.now.place c.args.p.now.word _ _ c.requires.starts c.advance.ensures.size in
     record {
       goes = Turns.one_term _ _ (atom c.in-Ok-Atom.a done) (and_from _ _ n refl) (omega arith) _ _ _ _ _ _ _ c.advance.ensures.moves c.push_reserved.ensures.items (λ l h r f b d. Runs.at_atom l h r f b _ _ _ _ (sym q) n d);
       grows = c.advance.ensures.grows;
@@ -270,13 +270,13 @@ unopened-returns-in-Ok-UnnumberedAtom t c =
 pub unopened-after_node-requires : goal.unopened-after_node-requires
 unopened-after_node-requires t c =
     let q : c.args.p.now.word ≡ Ok (w.Node c.in-Ok-Node.n) = search rules in
-    let z = Turns.one_start c.args.p.now.place c.args.p.now.word _ _ c.requires.starts c.advance-in-Ok-Node.ensures.size in
+    let z = Runs.one_start c.args.p.now.place c.args.p.now.word _ _ c.requires.starts c.advance-in-Ok-Node.ensures.size in
     (search rules, (omega arith, (c.requires.depth, sym (ap number_in_range q) ∙ c.args.p.now.numbered)))
 
 pub unopened-returns-in-Ok-Node : goal.unopened-returns-in-Ok-Node
 unopened-returns-in-Ok-Node t c =
     let q : c.args.p.now.word ≡ Ok (w.Node c.in-Ok-Node.n) = search rules in
-    let z = Turns.one_start c.args.p.now.place c.args.p.now.word _ _ c.requires.starts c.advance-in-Ok-Node.ensures.size in
+    let z = Runs.one_start c.args.p.now.place c.args.p.now.word _ _ c.requires.starts c.advance-in-Ok-Node.ensures.size in
     record {
       goes = Turns.word_first _ _ _ _ _ _ _ _ _ _ _ _ _ c.advance-in-Ok-Node.ensures.moves (λ l h r f b d. Runs.at_node l h r f b _ _ _ _ (sym q) (sym (ap number_in_range q) ∙ c.args.p.now.numbered) d) c.after_node.ensures.goes;
       grows = Growth.on _ _ _ c.advance-in-Ok-Node.ensures.grows c.after_node.ensures.grows;
@@ -287,12 +287,12 @@ unopened-returns-in-Ok-Node t c =
 
 pub unopened-after_quote-requires : goal.unopened-after_quote-requires
 unopened-after_quote-requires t c =
-    let z = Turns.one_start c.args.p.now.place c.args.p.now.word _ _ c.requires.starts c.advance-in_default.ensures.size in
+    let z = Runs.one_start c.args.p.now.place c.args.p.now.word _ _ c.requires.starts c.advance-in_default.ensures.size in
     (search rules, (omega arith, c.requires.depth))
 
 pub unopened-returns-in_default : goal.unopened-returns-in_default
 unopened-returns-in_default t c =
-    let z = Turns.one_start c.args.p.now.place c.args.p.now.word _ _ c.requires.starts c.advance-in_default.ensures.size in
+    let z = Runs.one_start c.args.p.now.place c.args.p.now.word _ _ c.requires.starts c.advance-in_default.ensures.size in
     let not_atom : (a : Atom) → c.args.p.now.word ≡ Ok (w.Atom a) → ⊥ = λ a q. grind arith in
     let not_node : (n : Node) → c.args.p.now.word ≡ Ok (w.Node n) → ⊥ = λ n q. grind arith in
     let no_atom : c.args.p.now.word ≡ Ok w.UnnumberedAtom → ⊥ = λ q. grind arith in

@@ -1,8 +1,9 @@
-use Rattle.std.proofs.Common.{◌≡◌, Ok, ◌∙◌, arith, rules}
+use Rattle.std.proofs.Common.{◌≡◌, Ok, ◌∙◌, arith, rules, refl}
 use Rattle.lookahead.specs.declared.word.Word.TheVariants as w
+use Rattle.loader.proofs.Runs
 use Rattle.loader.proofs.Runs.{no_end, at_end}
 use Rattle.lookahead.proofs.Growth
-use Rattle.loader.proofs.Turns.{one_quote, with_names, by_number}
+use Rattle.loader.proofs.Turns.{with_names, by_number}
 use Rattle.loader.proofs.reading.end_quote.Goals as goal
 
 pub returns-in_default : goal.returns-in_default
@@ -20,5 +21,5 @@ returns c =
     record {
       goes = λ l h r n i f b d. with_names _ (at_end l h r f b _ _ _ n i q d) ∙ c.advance.ensures.moves l _;
       grows = c.advance.ensures.grows;
-      less = λ e. omega (arith, one_quote c.args.p.now.place c.args.p.now.word _ _ q c.advance.ensures.size);
+      less = λ e. omega (arith, Runs.one_word c.args.p.now.place c.args.p.now.word w.Quote _ _ q refl c.advance.ensures.size);
     }

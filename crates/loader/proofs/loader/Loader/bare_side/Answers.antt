@@ -4,6 +4,7 @@ use Rattle.terms.specs.Maps.{every, atom_in_range}
 use Rattle.lookahead.specs.declared.word.Word.TheVariants as w
 use Rattle.loader.specs.Equations.{collected}
 use Rattle.lookahead.proofs.Growth
+use Rattle.loader.proofs.Runs
 use Rattle.loader.proofs.Lefts.{only_equals}
 use Rattle.loader.proofs.Atoms.{not_collected}
 use Rattle.loader.proofs.Marks
@@ -38,7 +39,7 @@ returns-in_ok-keep-in-Ok-Stop g c =
     record {
       goes = Sentences.side_ends false _ _ _ _ _ _ _ _ c.clear.ensures.items x g.K.Keeper.limits c.args.node (g.K.Keeper.kept c.args.keeper.now) c.args.place _ q c.requires.left _ (Sentences.as_sentence _ _ _ _ _ c.as_slice.ensures.value c.as_slice-in-Ok-Stop.ensures.value) k.0 _ k.1 _ _ c.advance.ensures.moves;
       grows = Growth.on _ _ _ told.grows c.advance.ensures.grows;
-      less = λ e. omega (arith, told.less refl, Marks.one_word c.right_side.new.p.place c.right_side.new.p.word (Ok w.Stop) _ _ q refl c.advance.ensures.size);
+      less = λ e. omega (arith, told.less refl, Runs.one_word c.right_side.new.p.place c.right_side.new.p.word w.Stop _ _ q refl c.advance.ensures.size);
     }
 
 pub returns-in_default : goal.returns-in_default
@@ -107,5 +108,5 @@ returns-in_ok-keep-in-Some g c =
     record {
       goes = Sentences.next_left_read _ _ _ _ _ _ _ _ _ _ x.0 (only_equals _ x.1) g.K.Keeper.limits c.args.node (g.K.Keeper.kept c.args.keeper.now) c.args.place _ _ r (vec_items c.swap.new.x) (sym (ap collected i) ∙ c.in-Ok.ensures.goes ∙ ap (λ v. Some (vec_items v)) (sym c.swap.ensures.x_after)) _ (Sentences.as_sentence _ _ _ _ _ c.as_slice-in-Some-2.ensures.value refl) k.0 _ k.1 _ _ c.advance-in-Some.ensures.moves;
       grows = Growth.on _ _ _ told.grows c.advance-in-Some.ensures.grows;
-      less = λ e. omega (arith, told.less refl, Marks.one_word c.right_side.new.p.place c.right_side.new.p.word (Ok w.Equals) _ _ (only_equals _ x.1) refl c.advance-in-Some.ensures.size);
+      less = λ e. omega (arith, told.less refl, Runs.one_word c.right_side.new.p.place c.right_side.new.p.word w.Equals _ _ (only_equals _ x.1) refl c.advance-in-Some.ensures.size);
     }

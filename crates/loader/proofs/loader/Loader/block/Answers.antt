@@ -4,6 +4,7 @@ use Rattle.grammar.specs.Parsing.{body}
 use Rattle.lookahead.specs.declared.word.Word.TheVariants as w
 use Rattle.lookahead.specs.Ended.{number_in_range}
 use Rattle.lookahead.proofs.Growth
+use Rattle.loader.proofs.Runs
 use Rattle.loader.proofs.Marks
 use Rattle.loader.proofs.Sentences
 use Rattle.loader.proofs.loader.Loader.block.Goals as goal
@@ -24,8 +25,8 @@ pub next_part-requires : goal.next_part-requires
 next_part-requires g c =
     let h = sym (ap number_in_range c.requires.starts) ∙ c.args.p.now.numbered in
     let q : c.advance.new.self.word ≡ Ok w.Colon = search rules in
-    let z₁ = Marks.one_word c.args.p.now.place c.args.p.now.word (Ok (w.Node c.args.node)) _ _ c.requires.starts refl c.advance.ensures.size in
-    let z₂ = Marks.one_word c.advance.new.self.place c.advance.new.self.word (Ok w.Colon) _ _ q refl c.advance-2.ensures.size in
+    let z₁ = Runs.one_word c.args.p.now.place c.args.p.now.word (w.Node c.args.node) _ _ c.requires.starts refl c.advance.ensures.size in
+    let z₂ = Runs.one_word c.advance.new.self.place c.advance.new.self.word w.Colon _ _ q refl c.advance-2.ensures.size in
     record { few = omega (arith, c.loop-next.invariant.2); named = h; left = c.loop-next.invariant.0.in_range }
 
 pub loop-next-smaller : goal.loop-next-smaller
@@ -52,8 +53,8 @@ pub returns : goal.returns
 returns g c =
     let h = sym (ap number_in_range c.requires.starts) ∙ c.args.p.now.numbered in
     let q : c.advance.new.self.word ≡ Ok w.Colon = search rules in
-    let z₁ = Marks.one_word c.args.p.now.place c.args.p.now.word (Ok (w.Node c.args.node)) _ _ c.requires.starts refl c.advance.ensures.size in
-    let z₂ = Marks.one_word c.advance.new.self.place c.advance.new.self.word (Ok w.Colon) _ _ q refl c.advance-2.ensures.size in
+    let z₁ = Runs.one_word c.args.p.now.place c.args.p.now.word (w.Node c.args.node) _ _ c.requires.starts refl c.advance.ensures.size in
+    let z₂ = Runs.one_word c.advance.new.self.place c.advance.new.self.word w.Colon _ _ q refl c.advance-2.ensures.size in
     record {
       goes = Sentences.block_read g.K.Keeper.limits c.args.node _ _ _ _ c.requires.starts h _ _ _ _ c.advance.ensures.moves q _ _ c.advance-2.ensures.moves _ _ c.in_default-next.is _ _ _ _ c.loop-next.invariant.0;
       grows = Growth.on _ _ _ (Growth.on _ _ _ c.advance.ensures.grows c.advance-2.ensures.grows) c.loop-next.invariant.1;

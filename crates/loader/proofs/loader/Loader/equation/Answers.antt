@@ -1,6 +1,7 @@
 use Rattle.std.proofs.Common.{refl, arith, ◌≡◌, Ok, rules}
 use Rattle.lookahead.specs.declared.word.Word.TheVariants as w
 use Rattle.lookahead.proofs.Growth
+use Rattle.loader.proofs.Runs
 use Rattle.loader.proofs.Turns.{by_number}
 use Rattle.loader.proofs.Marks
 use Rattle.loader.proofs.Sentences.{block_ends}
@@ -11,7 +12,7 @@ returns-in-Ok-Stop c =
     let q : c.args.p.now.word ≡ Ok w.Stop = search rules in record {
       goes = λ l n kept. block_ends l n kept _ _ _ _ _ _ _ q c.requires.left c.advance.ensures.moves;
       grows = c.advance.ensures.grows;
-      less = λ e. omega (arith, Marks.one_word c.args.p.now.place c.args.p.now.word (Ok w.Stop) _ _ q refl c.advance.ensures.size);
+      less = λ e. omega (arith, Runs.one_word c.args.p.now.place c.args.p.now.word w.Stop _ _ q refl c.advance.ensures.size);
     }
 
 pub returns-in_default : goal.returns-in_default

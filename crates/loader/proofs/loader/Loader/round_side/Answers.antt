@@ -3,6 +3,7 @@ use Rattle.std.proofs.lemmas.Result.{err_from_is_err_and}
 use Rattle.terms.specs.Maps.{every, atom_in_range}
 use Rattle.lookahead.specs.declared.word.Word.TheVariants as w
 use Rattle.lookahead.proofs.Growth
+use Rattle.loader.proofs.Runs
 use Rattle.loader.proofs.Marks
 use Rattle.loader.proofs.Sentences
 use Rattle.loader.proofs.loader.Loader.round_side.Goals as goal
@@ -35,7 +36,7 @@ returns-in_ok-keep-in-Ok-Close g c =
     record {
       goes = Sentences.side_ends true _ _ _ _ _ _ _ _ c.clear.ensures.items x g.K.Keeper.limits c.args.node (g.K.Keeper.kept c.args.keeper.now) c.args.place _ q c.requires.left _ (Sentences.as_sentence _ _ _ _ _ c.as_slice.ensures.value c.as_slice-in-Ok-Close.ensures.value) k.0 _ k.1 _ _ c.advance.ensures.moves;
       grows = Growth.on _ _ _ told.grows c.advance.ensures.grows;
-      less = λ e. omega (arith, told.less refl, Marks.one_word c.right_side.new.p.place c.right_side.new.p.word (Ok w.Close) _ _ q refl c.advance.ensures.size);
+      less = λ e. omega (arith, told.less refl, Runs.one_word c.right_side.new.p.place c.right_side.new.p.word w.Close _ _ q refl c.advance.ensures.size);
     }
 
 pub returns-in_default : goal.returns-in_default

@@ -8,7 +8,7 @@ ghost use Rattle.lines.specs.Refusals.{numbered};
 
 use crate::content::{Answer, Content, Refused};
 use crate::known::all_named;
-use crate::parts::put_line;
+use crate::pen::Pen;
 use crate::refusals::LineRefusal;
 use evaluator::Evaluator;
 use names::Names;
@@ -18,11 +18,14 @@ fn write_line(content: Content, page: &mut [u8], fill: usize) -> Result<usize, L
     ensures end { numbered result ≡ filled (line (bytes_of content.entry)) page.old fill }
     ensures page { page.new ≡ page_after (line (bytes_of content.entry)) page.old fill }
 {
-    let end = put_line(&mut [], fill, content);
+    let mut measure = Pen::new(&mut [], fill);
+    measure.put_line(content);
+    let end = measure.at;
     if end > page.len() {
         return Err(LineRefusal::NoRoom);
     }
-    put_line(page, fill, content);
+    let mut pen = Pen::new(page, fill);
+    pen.put_line(content);
     Ok(end)
 }
 

@@ -1,11 +1,11 @@
 -- Each mark has one byte.
-use Rattle.std.proofs.Common.{◌≡◌, ℕ, Bool, true, false, cond, eqb, sym, refl, ap, ◌∙◌, arith}
+use Rattle.std.proofs.Common.{◌≡◌, ℕ, Bool, true, false, cond, eqb, refl, ap, ◌∙◌}
 use Rattle.std.proofs.lemmas.Bool.{eqb-true}
 use Rattle.classes.specs.declared.Mark.{Mark}
 use Rattle.classes.specs.declared.Mark.TheVariants.{Less, Greater, Colon, Equals, Stop, Quote, Tick, Percent, Open, Close, Hash, Dollar, LeftBrace, RightBrace}
 use Rattle.classes.specs.declared.ByteClass.{ByteClass}
-use Rattle.classes.specs.declared.ByteClass.TheVariants.{Blank, Bad, Mark as Marked, Capital, Plain}
-use Rattle.classes.specs.Classes.{blank, control, capital, printed, class_of, mark_byte}
+use Rattle.classes.specs.declared.ByteClass.TheVariants.{Mark as Marked}
+use Rattle.classes.specs.Classes.{blank, control, capital, class_of, mark_byte}
 
 module _ (b : ℕ) (m : Mark) where
   -- one test of the chain: the byte is this mark's, or the rest of the chain tells

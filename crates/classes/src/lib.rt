@@ -9,7 +9,7 @@ use table::CLASSES;
 mod table;
 
 /// The marks of theory text: < > : = . " ' % ( ) # $ { }
-#[derive(Clone, Copy, Debug, PartialEq)]
+#[derive(Clone, Copy, Debug, PartialEq, Eq)]
 pub enum Mark {
     Less,
     Greater,
@@ -27,7 +27,7 @@ pub enum Mark {
     RightBrace,
 }
 
-#[derive(Clone, Copy, Debug, PartialEq)]
+#[derive(Clone, Copy, Debug, PartialEq, Eq)]
 pub enum ByteClass {
     Blank,
     Bad,

@@ -1,5 +1,6 @@
 -- The last element of a row, and what a table and a hold are with it.
-use Rattle.std.proofs.Common.{◌≡◌, ℕ, zero, suc, ◌+◌, ◌-◌, ◌<◌, Bool, true, false, ◌||◌, leb, List, [], ◌∷◌, ◌++◌, length, get_or, take, set, Some, None, Option, sym, refl, ap, ◌∙◌, arith, length-set}
+use Rattle.std.proofs.Common.{◌≡◌, ℕ, ◌+◌, ◌-◌, ◌<◌, Bool, true, false, ◌||◌, leb, List, [], ◌∷◌, ◌++◌, length, get_or, take, set, Some, None, Option, sym, refl, ap, ◌∙◌, arith, length-set}
+use Rattle.std.specs.List.{list_any}
 use Rattle.std.proofs.lemmas.List.{take_all, take_more, take_more_set}
 use Rattle.std.proofs.lemmas.Bool.Decides.{nat_tests}
 use Rattle.terms.specs.Limits.{path_limit, open_limit}
@@ -39,30 +40,28 @@ pub built_so_far : (is : List Inside) (h : Built) → so_far (built_of is h) ≡
 built_so_far [] h = refl
 built_so_far (j ∷ is) h = built_so_far is (inside j.quoting j.node (atoms_of j.atoms) h)
 
--- a question that is among the open ones stays so
-or_true : (b : Bool) → (b || true) ≡ true
-or_true true = refl
-or_true false = refl
+-- a question that a sentence is open for is among theirs
+or_moved : (a b c : Bool) → (a || (b || c)) ≡ ((b || a) || c)
+or_moved true true c = refl
+or_moved true false c = refl
+or_moved false true c = refl
+or_moved false false c = refl
 
-among_stacked : (q : Question) (os : List Open) (below : List Position) → among q (questions_at below) ≡ true → among q (questions_at (stacked os below)) ≡ true
-among_stacked q [] below e = e
-among_stacked q (o ∷ os) below e =
-    among_stacked q os (position_of o ∷ below) (ap (λ b. same_question q (question_of o.at) || b) e ∙ or_true (same_question q (question_of o.at)))
+or_false : (a : Bool) → (a || false) ≡ a
+or_false true = refl
+or_false false = refl
 
-pub among_at : (q : Question) (os : List Open) (below : List Position) (i : ℕ) (o : Open) → i < length os → o ≡ get_or os i o
-    → same_question q (question_of o.at) ≡ true → among q (questions_at (stacked os below)) ≡ true
-among_at q [] below i o h e s = absurd (omega arith)
-among_at q (p ∷ os) below zero o h e s =
-    among_stacked q os (position_of p ∷ below) (ap (λ b. b || among q (questions_at below)) (ap (λ x. same_question q (question_of x.at)) (sym e) ∙ s))
-among_at q (p ∷ os) below (suc i) o h e s = among_at q os (position_of p ∷ below) i o (omega arith) e s
+module _ (q : Question) where
+  abbrev pub is_for : Open → Bool
+  is_for o = same_question q (question_of o.at)
 
-pub among_more : (q : Question) (os : List Open) (i : ℕ) (o : Open) → i < length os → o ≡ get_or os i o
-    → same_question q (question_of o.at) ≡ false → among q (questions_at (positions_of (take i os))) ≡ false
-    → among q (questions_at (positions_of (take (i + 1) os))) ≡ false
-among_more q os i o h e s f =
-    ap (λ x. among q (questions_at (positions_of x))) (take_more os i o h ∙ ap (λ x. take i os ++ x ∷ []) (sym e))
-    ∙ (ap (λ x. among q (questions_at x)) (positions_push (take i os) o)
-    ∙ (ap (λ b. b || among q (questions_at (positions_of (take i os)))) s ∙ f))
+  among_stacked : (os : List Open) (below : List Position) → among q (questions_at (stacked os below)) ≡ (list_any is_for os || among q (questions_at below))
+  among_stacked [] below = refl
+  among_stacked (o ∷ os) below =
+      among_stacked os (position_of o ∷ below) ∙ or_moved (list_any is_for os) (is_for o) (among q (questions_at below))
+
+  pub any_is_among : (os : List Open) → list_any is_for os ≡ among q (questions_at (positions_of os))
+  any_is_among os = sym (among_stacked os [] ∙ or_false (list_any is_for os))
 
 -- a question that is kept, or has too long a path
 pub posed_asks : (r : Option Kept) (q : Question) (os : List Position) (h : Built) → Asks r q → posed r os h ≡ pose (questions_at os) q os h

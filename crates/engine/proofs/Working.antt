@@ -1,5 +1,5 @@
 -- A machine at work, and what an item does to it.
-use Rattle.std.proofs.Common.{◌≡◌, zero, suc, ◌+◌, ◌-◌, ◌<◌, ◌≤◌, Bool, true, false, leb, List, [], ◌∷◌, length, Some, None, vec_items, Option, sym, refl, ap, ◌∙◌, arith}
+use Rattle.std.proofs.Common.{◌≡◌, zero, suc, ◌+◌, ◌-◌, ◌<◌, ◌≤◌, Bool, true, false, leb, List, [], ◌∷◌, length, Some, None, Ok, Err, vec_items, Option, sym, refl, ap, ◌∙◌, arith}
 use lib.ListN.{length-map}
 use Rattle.std.proofs.lemmas.Bool.Decides.{nat_tests}
 use Rattle.terms.specs.declared.items.Atom.{Atom}
@@ -45,7 +45,7 @@ some_is_open m e =
 
 -- what the items do, at a table that is not empty
 module _ (os : List Position) (some : SomeOpen os) where
-  pub took_atom : (h g : Built) (a : Atom) → Gathered None h a g → working (top_onward os) g ≡ took (Some (item.Atom a)) (working os h)
+  pub took_atom : (h g : Built) (a : Atom) → Gathered (Ok tt) h a g → working (top_onward os) g ≡ took (Some (item.Atom a)) (working os h)
   took_atom h g a r =
       let e = some.2 in
       ap (λ p. working (top_onward p) g) e
@@ -53,7 +53,7 @@ module _ (os : List Position) (some : SomeOpen os) where
       ∙ (sym (ap (λ m. elim m as (λ _. Progress Position) [ zero ↦ reached (stops (full h)) | suc k ↦ working (onward some.0 ∷ some.1) (put (a ∷ []) h) ]) r.0.1)
       ∙ sym (ap (λ p. took (Some (item.Atom a)) (working p h)) e)))
 
-  pub took_none : (h g : Built) (a : Atom) (s : Stop) → Gathered (Some s) h a g → reached (stops (stop_of s)) ≡ took (Some (item.Atom a)) (working os h)
+  pub took_none : (h g : Built) (a : Atom) (s : Stop) → Gathered (Err s) h a g → reached (stops (stop_of s)) ≡ took (Some (item.Atom a)) (working os h)
   took_none h g a s r =
       let e = some.2 in
       ap (λ x. reached (stops x)) r.1

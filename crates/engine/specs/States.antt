@@ -1,5 +1,5 @@
 -- What a machine means: how far a step is.
-use Rattle.std.specs.Prelude.{◌≡◌, ℕ, suc, ◌<◌, ◌≤◌, Bool, true, List, [], ◌∷◌, length, Some, None, vec_items, Option, nat_lt}
+use Rattle.std.specs.Prelude.{◌≡◌, ℕ, suc, ◌<◌, ◌≤◌, Bool, true, List, [], ◌∷◌, length, Some, None, Ok, Err, vec_items, Option, Result, nat_lt}
 use Rattle.terms.specs.declared.items.Atom.{Atom}
 use Rattle.terms.specs.declared.items.Item.{Item}
 use Rattle.terms.specs.declared.items.Item.TheVariants as item
@@ -55,6 +55,11 @@ abbrev pub posed : Option Kept → List Position → Built → State Position
 posed None os h = stops outcomes.Stop.path
 posed (Some q) os h = pose (questions_at os) (question_of q) os h
 
+-- a tested question, or why there is none
+abbrev pub asked_or_stopped : Result Kept Stop → List Position → Built → State Position
+asked_or_stopped (Ok q) os h = asks (question_of q) os h
+asked_or_stopped (Err s) os h = stops (stop_of s)
+
 abbrev pub built_in : Machine → Built
 built_in m = built_of (vec_items m.insides) (whole (vec_items m.value))
 
@@ -72,9 +77,9 @@ PlaceInRange [] = Unit {0}
 PlaceInRange (o ∷ os) = o.place < item_limit
 
 -- an atom is taken, or has no room
-abbrev pub Gathered : Option Stop → Built → Atom → Built → Type 0
-Gathered None h a g = ((m : ℕ) × (room h ≡ suc m)) × (g ≡ put (a ∷ []) h)
-Gathered (Some s) h a g = (room h ≡ 0) × (stop_of s ≡ full h)
+abbrev pub Gathered : Result (Unit {0}) Stop → Built → Atom → Built → Type 0
+Gathered (Ok x) h a g = ((m : ℕ) × (room h ≡ suc m)) × (g ≡ put (a ∷ []) h)
+Gathered (Err s) h a g = (room h ≡ 0) × (stop_of s ≡ full h)
 
 abbrev pub WantedInRange : Option Item → List Position → Type 0
 WantedInRange None os = Unit {0}

@@ -57,15 +57,16 @@ impl Machine {
         ensures bounded { result.requests ≤ asked_limit * result.steps }
         ensures went { TakesSteps (S.Store.means store.now) granted self.old self.new result }
     {
-        let mut steps: u32 = 0;
         let mut requests: u64 = 0;
-        while steps < granted {
+        for steps in 0..granted {
             let Phase::Asks = self.phase else {
-                break;
+                return Worked { steps, requests };
             };
             requests += step(store, self);
-            steps += 1;
         }
-        Worked { steps, requests }
+        Worked {
+            steps: granted,
+            requests,
+        }
     }
 }

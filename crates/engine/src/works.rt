@@ -1,12 +1,12 @@
 // What the answer of a look-up and an item do to a machine.
-ghost use Rattle.std.specs.Prelude.{◌≡◌, ◌<◌, [], IfOk, Some, None, vec_len};
+ghost use Rattle.std.specs.Prelude.{◌≡◌, ◌<◌, [], IfOk, OnOk, Some, None, vec_len};
 ghost use Rattle.rules.specs.Evaluation.{among};
 ghost use Rattle.machine.specs.Steps.{Built, asks, has, stops};
 ghost use Rattle.machine.specs.Bounds.{inside_limit};
-ghost use Rattle.terms.specs.Limits.{item_limit};
+ghost use Rattle.terms.specs.Limits.{item_limit, open_limit};
 ghost use Rattle.machine.specs.Items.{onward, reached, took, questions_at};
 ghost use Rattle.sentences.specs.Kept.{question_of, position_of};
-ghost use Rattle.engine.specs.States.{progress_of, posed, built_in, positions_in, top_onward, PlaceInRange, WantedInRange, Room, roomy, Top, LeftWithin, answered, Gathered};
+ghost use Rattle.engine.specs.States.{progress_of, posed, asked_or_stopped, built_in, positions_in, top_onward, PlaceInRange, WantedInRange, Room, roomy, Top, LeftWithin, answered, Gathered};
 ghost use Rattle.terms.specs.declared.items.Item.TheVariants as item;
 ghost use Rattle.rules.specs.Outcomes as outcomes;
 
@@ -31,53 +31,54 @@ fn advance(top: &mut Open)
 
 impl Machine {
     /// Whether a sentence is open for the same question.
-    fn is_open(&self, q: &Question) -> bool
-        ensures { result ≡ among (question_of q.now) (questions_at (positions_in self.now)) }
+    fn is_open(&self, question: &Question) -> bool
+        ensures { result ≡ among (question_of question.now) (questions_at (positions_in self.now)) }
     {
-        for o in self.table.iter() {
-            if q.same(&o.at) {
-                return true;
-            }
+        self.table.iter().any(|open| open.is_for(question))
+    }
+
+    /// Tests a new question, for path, circle and depth in turn.
+    fn tested(&self, asked: Option<Question>) -> Result<Question, Stop>
+        ensures posed { asked_or_stopped result (positions_in self.now) (built_in self.now) ≡ posed asked (positions_in self.now) (built_in self.now) }
+        ensures room { OnOk result (vec_len self.now.table < open_limit) }
+    {
+        let question = asked.ok_or(Stop::Path)?;
+        if self.is_open(&question) {
+            return Err(Stop::Circular);
         }
-        false
+        if self.table.len() >= OPEN_SENTENCES {
+            return Err(Stop::Depth);
+        }
+        Ok(question)
     }
 
     /// Tests a new question, and asks it.
     fn pose(&mut self, asked: Option<Question>)
         ensures { progress_of self.new ≡ reached (posed asked (positions_in self.old) (built_in self.old)) }
     {
-        match asked {
-            None => self.phase = Phase::Stops(Stop::Path),
-            Some(q) => {
-                if self.is_open(&q) {
-                    self.phase = Phase::Stops(Stop::Circular);
-                } else if self.table.len() >= OPEN_SENTENCES {
-                    self.phase = Phase::Stops(Stop::Depth);
-                } else {
-                    self.phase = Phase::Asks;
-                    self.asked = q;
-                }
+        match self.tested(asked) {
+            Ok(question) => {
+                self.phase = Phase::Asks;
+                self.asked = question;
             }
+            Err(stop) => self.phase = Phase::Stops(stop),
         }
     }
 
     /// An atom goes to the innermost inside, or to the value.
-    fn gather(&mut self, a: Atom) -> Option<Stop>
+    fn gather(&mut self, atom: Atom) -> Result<(), Stop>
         ensures table { positions_in self.new ≡ positions_in self.old }
         ensures phase { self.new.phase ≡ self.old.phase }
-        ensures gathered { Gathered result (built_in self.old) a (built_in self.new) }
+        ensures gathered { Gathered result (built_in self.old) atom (built_in self.new) }
     {
         if let Some(inside) = self.insides.last_mut() {
-            if inside.atoms.push(a) {
-                None
-            } else {
-                Some(Stop::Path)
-            }
+            inside.atoms.push(atom)?;
+            Ok(())
         } else if self.value.len() < VALUE_ATOMS {
-            self.value.push_reserved(a);
-            None
+            self.value.push_reserved(atom);
+            Ok(())
         } else {
-            Some(Stop::Length)
+            Err(Stop::Length)
         }
     }
 
@@ -93,14 +94,14 @@ impl Machine {
         }
     }
 
-    fn put(&mut self, a: Atom)
+    fn put(&mut self, atom: Atom)
         requires works { self.old.phase ≡ Phase.Works }
         requires place { PlaceInRange (positions_in self.old) }
-        ensures { progress_of self.new ≡ took (Some (item.Atom a)) (progress_of self.old) }
+        ensures { progress_of self.new ≡ took (Some (item.Atom atom)) (progress_of self.old) }
     {
-        match self.gather(a) {
-            None => self.move_on(),
-            Some(stop) => self.phase = Phase::Stops(stop),
+        match self.gather(atom) {
+            Ok(()) => self.move_on(),
+            Err(stop) => self.phase = Phase::Stops(stop),
         }
     }
 
@@ -165,7 +166,7 @@ impl Machine {
     {
         match (self.phase, item) {
             (Phase::Works, None) => self.close_sentence(),
-            (Phase::Works, Some(Item::Atom(a))) => self.put(a),
+            (Phase::Works, Some(Item::Atom(atom))) => self.put(atom),
             (Phase::Works, Some(Item::Node(quoting, node))) => self.ask_node(quoting, node),
             (Phase::Works, Some(Item::Open(quoting, node))) => self.open_path(quoting, node),
             (Phase::Works, Some(Item::Close)) => self.close_path(),
@@ -179,10 +180,7 @@ impl Machine {
     {
         match item {
             Some(Item::Open(_, _)) => self.insides.len() < INSIDES,
-            Some(Item::Atom(_)) => true,
-            Some(Item::Node(_, _)) => true,
-            Some(Item::Close) => true,
-            None => true,
+            _ => true,
         }
     }
 

@@ -1,10 +1,9 @@
 -- What an evaluator's state shows, and what calls make of it.
-use Rattle.std.proofs.Common.{◌≡◌, ℕ, zero, suc, ◌+◌, ◌<◌, ◌≤◌, min, true, false, ◌&&◌, ltb, List, [], ◌∷◌, ◌++◌, length, get_or, take, Some, None, vec_items, Option, sym, refl, ap, ◌∙◌, subst, append_assoc, arith}
-use Rattle.std.proofs.lemmas.Bool.Decides.{nat_tests}
+use Rattle.std.proofs.Common.{◌≡◌, ℕ, ◌+◌, ◌<◌, min, List, [], ◌∷◌, ◌++◌, length, get_or, take, Some, None, vec_items, Option, sym, refl, ap, ◌∙◌, subst, append_assoc, arith}
 use Rattle.std.proofs.lemmas.List.{take_more, map-append}
 use Rattle.terms.specs.declared.items.Atom.{Atom}
-use Rattle.terms.specs.Limits.{atom_limit, step_limit}
-use Rattle.terms.specs.Maps.{Map, Meaning, every, atom_in_range}
+use Rattle.terms.specs.Limits.{step_limit}
+use Rattle.terms.specs.Maps.{Map, Meaning}
 use Rattle.rules.specs.Questions.{Question}
 use Rattle.rules.specs.Shown.{Shown, unfinished, shows, ended}
 use Rattle.machine.specs.Steps.{whole, asks, after, steps_taken, start}
@@ -15,23 +14,21 @@ use Rattle.machine.proofs.Steps.{steps_show_the_outcome_lem, steps_taken_are_rep
 use Rattle.sentences.specs.declared.table.Question.{Question as Kept}
 use Rattle.sentences.specs.declared.table.Open.{Open as Opened}
 use Rattle.sentences.specs.declared.table.Inside.{Inside}
-use Rattle.engine.specs.declared.table.Stop.{Stop}
-use Rattle.engine.specs.declared.table.Stop.TheVariants as stop
 use Rattle.engine.specs.declared.table.Phase.{Phase}
 use Rattle.engine.specs.declared.table.Phase.TheVariants as phase
 use Rattle.engine.specs.declared.table.Worked.{Worked}
 use Rattle.engine.specs.declared.inner.Machine.{Machine}
 use Rattle.sentences.specs.Kept.{question_of}
-use Rattle.engine.specs.States.{parts, progress_of, stop_of}
+use Rattle.engine.specs.States.{parts, progress_of}
 use Rattle.engine.specs.Between.{Rests, Between, WentOn}
 use Rattle.engine.proofs.Working.{first_asks}
 use Rattle.evaluator.specs.declared.answers.Call.{Call}
 use Rattle.evaluator.specs.declared.answers.Outcome.TheVariants as answer
 use Rattle.evaluator.specs.declared.evaluator.Evaluator.{Evaluator}
 use Rattle.evaluator.specs.Calls.{Act, works, GrantsAddUp, act_of, acts_of, Holding, shown_for, reported_for, refused, while_idle, while_unfinished, passed, granted_more, unless_refused, held_after, held_from, held}
-use Rattle.evaluator.specs.Shown.{outcome_of, stopped_by, atom_at, value_of, atom_of}
+use Rattle.evaluator.specs.Shown.{outcome_of, atom_at, value_of, atom_of}
 use Rattle.evaluator.specs.Holds.{holding, holding_of, shown_in, shown_by, WorkedSoFar, Holds, CameBy}
-use Rattle.evaluator.specs.Promise.{ByTheRules, ByTheRulesAfter, Called, New, SameMap}
+use Rattle.evaluator.specs.Promise.{ByTheRules, ByTheRulesAfter, Called, New, SameMap, ShownOverAnyStore}
 use Rattle.evaluator.proofs.Right.{right}
 
 -- what the machine's phase shows
@@ -110,6 +107,10 @@ module _ {S : Type 0} (means : S → Meaning) where
   pub new : (e : Evaluator S) → CameBy means [] e → New means e.store e
   new e c = record { over = refl; came = c; right = right_after [] e c }
 
+-- whatever it shows, it shows by the rules
+pub shown_right : {S : Type 0} (e : Evaluator S) → ShownOverAnyStore e
+shown_right e means acts c = right_after means acts e c
+
 -- two stores of the same map
 pub alike : {S R : Type 0} (means : S → Meaning) (means' : R → Meaning) (e : Evaluator S) (z : Evaluator R) (acts : List Act)
     → SameMap (means e.store).map (means' z.store).map → CameBy means acts e → CameBy means' acts z
@@ -171,9 +172,6 @@ pub holds_on : (M : Map) (m z : Machine) (o : Option Kept) (q : Kept) (g s n : �
 holds_on M m z o q g s n r e f h =
     subst (λ x. Holds M z x (g + n) (s + r.steps)) (sym e) (worked_on M m z (question_of q) g s n r f (subst (λ x. Holds M m x g s) e h))
 
-pub between_held : (M : Map) (m : Machine) (o : Option Kept) (q : Kept) (g s : ℕ) → o ≡ Some q → Holds M m o g s → Between M m
-between_held M m o q g s e h = (subst (λ x. Holds M m x g s) e h).between
-
 -- a question that has just been set
 pub begun : (M : Map) (m : Machine) (q : Kept) → progress_of m ≡ reached (asks (question_of q) [] (whole [])) → m.phase ≡ phase.Asks
     → WorkedSoFar M m (question_of q) 0 0
@@ -183,33 +181,6 @@ begun M m q e p = record {
   state = ap (λ w. comes_to (meant M w)) e ∙ sym (first_asks q (whole []));
   count = refl;
 }
-
--- what is shown, by the answers
-pub stops_back : (s : Stop) → s ≡ stopped_by (stop_of s)
-stops_back stop.Undefined = refl
-stops_back stop.Path = refl
-stops_back stop.Circular = refl
-stops_back stop.Depth = refl
-stops_back stop.Length = refl
-
-pub at_some : (v : List Atom) (k : ℕ) (d : Atom) → k < length v → Some (get_or v k d) ≡ atom_at v k
-at_some [] k d h = absurd (omega arith)
-at_some (a ∷ v) zero d h = refl
-at_some (a ∷ v) (suc k) d h = at_some v k d (omega arith)
-
-pub at_none : (v : List Atom) (k : ℕ) → length v ≤ k → None ≡ atom_at v k
-at_none [] k h = refl
-at_none (a ∷ v) zero h = absurd (omega arith)
-at_none (a ∷ v) (suc k) h = at_none v k (omega arith)
-
--- the outcome and the atoms that are shown in a phase
-pub outcome_in : (o : Option Kept) (p x : Phase) (v : List Atom) (q : Kept) → o ≡ Some q → x ≡ p
-    → outcome_of (shown_in (Some q) x v) ≡ outcome_of (shown_in o p v)
-outcome_in o p x v q e f = sym (ap (λ k. outcome_of (shown_in k p v)) e ∙ ap (λ y. outcome_of (shown_in (Some q) y v)) (sym f))
-
-pub value_in : (o : Option Kept) (p x : Phase) (v : List Atom) (q : Kept) → o ≡ Some q → x ≡ p
-    → value_of (shown_in (Some q) x v) ≡ value_of (shown_in o p v)
-value_in o p x v q e f = sym (ap (λ l. value_of (shown_in l p v)) e ∙ ap (λ y. value_of (shown_in (Some q) y v)) (sym f))
 
 -- the atom at a place is the value's
 pub atom_in_value : (out : Option Shown) (k : ℕ) → atom_at (value_of out) k ≡ atom_of out k
@@ -225,13 +196,6 @@ no_value (Some q) phase.Asks v f = refl
 no_value (Some q) phase.Works v f = refl
 no_value (Some q) phase.Has v f = absurd (f refl)
 no_value (Some q) (phase.Stops s) v f = refl
-
--- the numbers of a path
-pub out_of_range : (a : Atom) (p : List Atom) → atom_limit ≤ a.0 → false ≡ every atom_in_range (a ∷ p)
-out_of_range a p h = let l : ltb a.0 atom_limit ≡ false = grind (arith, nat_tests) in sym (ap (λ b. b && every atom_in_range p) l)
-
-pub one_in_range : (a : Atom) (p : List Atom) → a.0 < atom_limit → every atom_in_range (a ∷ p) ≡ every atom_in_range p
-one_in_range a p h = let l : ltb a.0 atom_limit ≡ true = grind (arith, nat_tests) in ap (λ b. b && every atom_in_range p) l
 
 -- one more of a list of calls
 pub one_more_call : (before : List Act) (cs : List Call) (i : ℕ) (d : Call) → i < length cs

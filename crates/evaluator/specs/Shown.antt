@@ -1,5 +1,6 @@
 -- What is shown, by the answers of the showing calls.
-use Rattle.std.specs.Prelude.{ℕ, zero, suc, List, [], ◌∷◌, Some, None, Option}
+use Rattle.std.specs.Prelude.{ℕ, List, [], Some, None, Option}
+use Rattle.std.specs.List.{slice_get}
 use Rattle.terms.specs.declared.items.Atom.{Atom}
 use Rattle.rules.specs.Outcomes as outcomes
 use Rattle.rules.specs.Shown.{Shown, unfinished, shows, ended}
@@ -23,9 +24,7 @@ outcome_of (Some (ended s)) = answer.Stopped (stopped_by s)
 
 -- the atom at a place, counted from 0
 abbrev pub atom_at : List Atom → ℕ → Option Atom
-atom_at [] k = None
-atom_at (a ∷ v) zero = Some a
-atom_at (a ∷ v) (suc k) = atom_at v k
+atom_at v k = slice_get v k
 
 -- the atoms of the value; none where no value is shown
 abbrev pub value_of : Option Shown → List Atom

@@ -6,7 +6,7 @@ use engine::Stop;
 use terms::{Atom, Node};
 
 /// What is shown.
-#[derive(Clone, Copy)]
+#[derive(Clone, Copy, PartialEq, Eq, Debug)]
 pub enum Outcome {
     Idle,
     Unfinished,
@@ -15,30 +15,26 @@ pub enum Outcome {
 }
 
 /// Why a call is refused.
-#[derive(Clone, Copy)]
+#[derive(Clone, Copy, PartialEq, Eq, Debug)]
 pub enum Refusal {
     /// A number out of range, or over 32 atoms.
-    OutOfRange,
+    OutOfRange = 12,
     /// The question held is unfinished.
-    Unfinished,
+    Unfinished = 13,
     /// No question is held.
-    Idle,
+    Idle = 14,
 }
 
 impl Refusal {
     pub fn number(self) -> u8
         ensures { result ≡ number self }
     {
-        match self {
-            Refusal::OutOfRange => 12,
-            Refusal::Unfinished => 13,
-            Refusal::Idle => 14,
-        }
+        self as u8
     }
 }
 
 /// A call, as a value.
-#[derive(Clone, Copy)]
+#[derive(Clone, Copy, PartialEq, Eq, Debug)]
 pub enum Call<'a> {
     Begin(Node, &'a [Atom]),
     Work(u32),

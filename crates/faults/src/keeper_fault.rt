@@ -5,7 +5,7 @@ ghost use Rattle.stores.specs.Refusals.{number};
 use stores::Refusal;
 
 /// A refusal of 6 to 9, beside the place of the sentence's left path.
-#[derive(Clone, Copy)]
+#[derive(Clone, Copy, Debug, PartialEq, Eq)]
 pub struct KeeperFault {
     pub refusal: Refusal,
     pub place: usize,

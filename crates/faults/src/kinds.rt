@@ -6,27 +6,39 @@ ghost use Rattle.faults.specs.declared.kinds.LoadFault.TheVariants as load;
 use crate::keeper_fault::KeeperFault;
 use words::WordFault;
 
-#[derive(Clone, Copy)]
+#[derive(Clone, Copy, Debug, PartialEq, Eq)]
 pub enum GrammarRefusal {
     /// A word with which no theory goes on there.
-    Misplaced,
+    Misplaced = 4,
     /// A path within four others.
-    TooDeep,
+    TooDeep = 5,
+}
+
+impl GrammarRefusal {
+    ghost use Rattle.faults.specs.Grammar.{own_number_lem};
+
+    pub(crate) fn number(self) -> u8
+        ensures { result ≡ own_number_lem self }
+    {
+        self as u8
+    }
 }
 
 /// A new name, where there is no number left.
-#[derive(Clone, Copy)]
+#[derive(Clone, Copy, Debug, PartialEq, Eq)]
 pub struct NameFault {
     pub place: usize,
 }
 
-#[derive(Clone, Copy)]
+#[derive(Clone, Copy, Debug, PartialEq, Eq)]
 pub enum GrammarFault {
     Word(WordFault),
     Own(GrammarRefusal, usize),
     Name(NameFault),
     Keeper(KeeperFault),
 }
+
+// The conversions are kept by hand: the readers' clauses name the fault that a `?` makes, by `from_gives`.
 
 impl From<WordFault> for GrammarFault {
     ghost from_gives = { λ e r. r ≡ fault.Word e };
@@ -53,7 +65,7 @@ impl From<KeeperFault> for GrammarFault {
 }
 
 /// Who refuses.
-#[derive(Clone, Copy, PartialEq, Debug)]
+#[derive(Clone, Copy, Debug, PartialEq, Eq)]
 pub enum Layer {
     Words,
     Grammar,
@@ -63,7 +75,7 @@ pub enum Layer {
 }
 
 /// Why a text is not loaded.
-#[derive(Clone, Copy)]
+#[derive(Clone, Copy, Debug, PartialEq, Eq)]
 pub enum LoadFault {
     /// Over 65,536 bytes.
     TooLong,

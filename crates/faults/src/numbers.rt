@@ -3,51 +3,44 @@ ghost use Rattle.std.specs.Prelude.{◌≡◌};
 ghost use Rattle.faults.specs.Grammar as grammar;
 ghost use Rattle.faults.specs.Loads.{number, place, grammar_layer_lem, layer, layer_of};
 
-use crate::kinds::{GrammarFault, GrammarRefusal, Layer, LoadFault};
+use crate::kinds::{GrammarFault, Layer, LoadFault};
 
 /// The bytes that a text has at most.
 pub const TEXT_BYTES: usize = 65_536;
 
-fn own_number(refusal: GrammarRefusal) -> u8
-    ensures { result ≡ grammar.own_number_lem refusal }
-{
-    match refusal {
-        GrammarRefusal::Misplaced => 4,
-        GrammarRefusal::TooDeep => 5,
+impl GrammarFault {
+    fn number(self) -> u8
+        ensures { result ≡ grammar.number self }
+    {
+        match self {
+            GrammarFault::Word(e) => e.refusal.number(),
+            GrammarFault::Own(refusal, _) => refusal.number(),
+            GrammarFault::Name(_) => 10,
+            GrammarFault::Keeper(e) => e.refusal.number(),
+        }
     }
-}
 
-fn grammar_number(fault: GrammarFault) -> u8
-    ensures { result ≡ grammar.number fault }
-{
-    match fault {
-        GrammarFault::Word(e) => e.refusal.number(),
-        GrammarFault::Own(refusal, _) => own_number(refusal),
-        GrammarFault::Name(_) => 10,
-        GrammarFault::Keeper(e) => e.refusal.number(),
+    fn place(self) -> usize
+        ensures { result ≡ grammar.place self }
+    {
+        match self {
+            GrammarFault::Word(e) => e.place,
+            GrammarFault::Own(_, place) => place,
+            GrammarFault::Name(e) => e.place,
+            GrammarFault::Keeper(e) => e.place,
+        }
     }
-}
 
-fn grammar_place(fault: GrammarFault) -> usize
-    ensures { result ≡ grammar.place fault }
-{
-    match fault {
-        GrammarFault::Word(e) => e.place,
-        GrammarFault::Own(_, place) => place,
-        GrammarFault::Name(e) => e.place,
-        GrammarFault::Keeper(e) => e.place,
-    }
-}
-
-fn grammar_layer(fault: GrammarFault) -> Layer
-    ensures value { result ≡ grammar_layer_lem fault }
-    ensures by_number { result ≡ layer_of (grammar.number fault) }
-{
-    match fault {
-        GrammarFault::Word(_) => Layer::Words,
-        GrammarFault::Own(_, _) => Layer::Grammar,
-        GrammarFault::Name(_) => Layer::Names,
-        GrammarFault::Keeper(_) => Layer::Keeper,
+    fn layer(self) -> Layer
+        ensures value { result ≡ grammar_layer_lem self }
+        ensures by_number { result ≡ layer_of (grammar.number self) }
+    {
+        match self {
+            GrammarFault::Word(_) => Layer::Words,
+            GrammarFault::Own(_, _) => Layer::Grammar,
+            GrammarFault::Name(_) => Layer::Names,
+            GrammarFault::Keeper(_) => Layer::Keeper,
+        }
     }
 }
 
@@ -57,7 +50,7 @@ impl LoadFault {
     {
         match self {
             LoadFault::TooLong => 11,
-            LoadFault::Grammar(fault) => grammar_number(fault),
+            LoadFault::Grammar(fault) => fault.number(),
         }
     }
 
@@ -66,7 +59,7 @@ impl LoadFault {
     {
         match self {
             LoadFault::TooLong => TEXT_BYTES,
-            LoadFault::Grammar(fault) => grammar_place(fault),
+            LoadFault::Grammar(fault) => fault.place(),
         }
     }
 
@@ -77,7 +70,7 @@ impl LoadFault {
     {
         match self {
             LoadFault::TooLong => Layer::Loader,
-            LoadFault::Grammar(fault) => grammar_layer(fault),
+            LoadFault::Grammar(fault) => fault.layer(),
         }
     }
 }

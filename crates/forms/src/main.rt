@@ -3,20 +3,21 @@
 
 mod texts;
 
+use faults::TEXT_BYTES;
 use std::fs;
 use std::io::{ErrorKind, Read};
 use texts::{TextFault, tally_text};
 use words::Tally;
 
 // One byte more than a text may have, so that a longer one shows without being read whole.
-const READ_BYTES: u64 = 65_537;
+const READ_BYTES: usize = TEXT_BYTES + 1;
 
 // A missing file is an empty text.
 fn read_text(rt: &HostRuntime, path: &str) -> anyhow::Result<Vec<u8>> {
-    let mut text = Vec::with_capacity(rt.alloc(), 65_537)?;
+    let mut text = Vec::with_capacity(rt.alloc(), READ_BYTES)?;
     match fs::open(rt, path) {
         Ok(file) => {
-            file.take(READ_BYTES).read_to_end(&mut text)?;
+            file.take(READ_BYTES as u64).read_to_end(&mut text)?;
         }
         Err(e) => {
             if e.kind() != ErrorKind::NotFound {

@@ -1,6 +1,6 @@
 pub mod Examples
 pub mod Spelled
-pub mod Every
 pub mod Values
 pub mod Answered
 pub mod Lengths
+pub mod Pens

@@ -1,19 +1,7 @@
 -- Bytes spelled one behind the other.
-use Rattle.std.proofs.Common.{◌≡◌, ℕ, ◌+◌, ◌-◌, ◌^◌, ◌<◌, ◌≤◌, List, [], ◌++◌, length, take, drop, sym, ap, ◌∙◌, subst, append_assoc, add-zero, arith, length-append, take-append-drop}
-use borrow.Rule.Slice.PartMut.{put_mid}
+use Rattle.std.proofs.Common.{◌≡◌, ℕ, ◌+◌, ◌^◌, ◌<◌, ◌≤◌, List, [], ◌++◌, length, take, drop, sym, ap, ◌∙◌, subst, append_assoc, add-zero, arith, length-append, take-append-drop}
 use Rattle.std.proofs.lemmas.List.{length-take-le, drop-drop, take_at, drop_at}
 use Rattle.lines.specs.Pages.{written, behind, Spelled}
-
--- what copying into a part of the page leaves
-pub copied : (page bytes part : List ℕ) (at end : ℕ) → length page < 2 ^ 64 → end ≡ behind at (length bytes) → part ≡ bytes
-    → Spelled page at bytes end (put_mid at (end - at) page part)
-copied page bytes part at end few e same = record {
-  ends = e;
-  wrote = λ h.
-      let n : end - at ≡ length bytes = omega arith in
-      ap (λ k. put_mid at k page part) n ∙ (ap (put_mid at (length bytes) page) same
-      ∙ ap (λ l. take at page ++ (bytes ++ l)) (drop-drop (length bytes) at page));
-}
 
 pub none : (page : List ℕ) (at : ℕ) → at < 2 ^ 64 → Spelled page at [] at page
 none page at h = record {

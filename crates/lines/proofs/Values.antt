@@ -1,7 +1,7 @@
 -- The names of atoms, one more at the end or at the front.
-use Rattle.std.proofs.Common.{◌≡◌, ℕ, ◌+◌, ◌-◌, ◌<◌, ◌≤◌, true, false, eqb, List, [], ◌∷◌, ◌++◌, length, get_or, take, drop, sym, refl, ap, ◌∙◌, append_assoc, arith, eqb-true}
+use Rattle.std.proofs.Common.{◌≡◌, ℕ, ◌+◌, ◌<◌, ◌≤◌, false, eqb, List, [], ◌∷◌, ◌++◌, length, get_or, take, drop, sym, refl, ap, ◌∙◌, append_assoc}
 use borrow.Author.Tests.{eqb-false}
-use Rattle.std.proofs.lemmas.List.{append-nil, map_more, take_all, take_rest}
+use Rattle.std.proofs.lemmas.List.{append-nil, map_more, take_all}
 use Rattle.terms.specs.declared.items.Atom.{Atom}
 use Rattle.lines.specs.Bytes.{atom_bytes, value_bytes, spaced}
 use Rattle.lines.specs.Names.{name_or_none, names_of}
@@ -26,14 +26,3 @@ first_of : (names : List (List ℕ)) (atoms : List Atom) (d : Atom) → eqb (len
     → atom_bytes (name_or_none names (get_or atoms 0 d).0) ++ value_bytes (names_of names (drop 1 atoms)) ≡ spaced (names_of names atoms)
 first_of names [] d h = absurd (eqb-false 0 0 h refl)
 first_of names (a ∷ atoms) d h = refl
-
-pub no_atoms : (names : List (List ℕ)) (atoms : List Atom) → eqb (length atoms) 0 ≡ true → [] ≡ spaced (names_of names atoms)
-no_atoms names [] h = refl
-no_atoms names (a ∷ atoms) h = let z : length (a ∷ atoms) ≡ 0 = eqb-true (length (a ∷ atoms)) 0 h in absurd (omega arith)
-
-pub first_and_rest : (names : List (List ℕ)) (atoms : List Atom) (d : Atom) (x : List ℕ) → eqb (length atoms) 0 ≡ false
-    → x ≡ name_or_none names (get_or atoms 0 d).0
-    → atom_bytes x ++ value_bytes (names_of names (take (length atoms - 1) (drop 1 atoms))) ≡ spaced (names_of names atoms)
-first_and_rest names atoms d x h e =
-    ap (λ l. atom_bytes x ++ value_bytes (names_of names l)) (take_rest atoms 1)
-    ∙ (ap (λ l. atom_bytes l ++ value_bytes (names_of names (drop 1 atoms))) e ∙ first_of names atoms d h)

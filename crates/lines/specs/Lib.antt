@@ -1,5 +1,6 @@
 pub mod Bytes
 pub mod Pages
+pub mod Pens
 pub mod Names
 pub mod Lines
 pub mod Refusals

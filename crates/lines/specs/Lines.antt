@@ -10,6 +10,7 @@ use Rattle.evaluator.specs.declared.answers.Outcome.TheVariants as answer
 use Rattle.evaluator.specs.declared.evaluator.Evaluator.{Evaluator}
 use Rattle.evaluator.specs.Holds.{holding_of, question_in, shown_by}
 use Rattle.lines.specs.declared.content.Answer.{Answer}
+use Rattle.lines.specs.declared.content.Refused.{Refused}
 use Rattle.lines.specs.declared.content.Content.{Content}
 use Rattle.lines.specs.declared.content.Content.TheVariants as content
 use Rattle.lines.specs.Bytes.{Line, shown_line, question_bytes, stop_bytes, unfinished_bytes, value_bytes, line_bytes, placed_bytes}
@@ -35,9 +36,12 @@ answer_bytes a =
     (names_of (atoms_in a.names.now) (question_of a.question.now).path)
     (said_by a.outcome (names_of (atoms_in a.names.now) a.value.now)) a.steps
 
+abbrev pub refused_bytes : Refused → List ℕ
+refused_bytes r = r.title.now ++ (r.mark.now ++ placed_bytes r.number r.place)
+
 abbrev pub bytes_of : Content → List ℕ
 bytes_of (content.Answer a) = answer_bytes a
-bytes_of (content.Refused title mark number place) = title.now ++ (mark.now ++ placed_bytes number place)
+bytes_of (content.Refused r) = refused_bytes r
 
 -- the line of what an evaluator shows
 abbrev pub line_by : {S : Type 0} → Names → Evaluator S → Line

@@ -14,9 +14,17 @@ pub(crate) struct Answer<'a> {
     pub(crate) steps: u32,
 }
 
+/// A refusal with number and place, behind a title and a mark.
+#[derive(Clone, Copy)]
+pub(crate) struct Refused<'a> {
+    pub(crate) title: &'a [u8],
+    pub(crate) mark: &'a [u8],
+    pub(crate) number: u8,
+    pub(crate) place: usize,
+}
+
 #[derive(Clone, Copy)]
 pub(crate) enum Content<'a> {
     Answer(Answer<'a>),
-    /// A refusal with number and place, behind a title and a mark.
-    Refused(&'a [u8], &'a [u8], u8, usize),
+    Refused(Refused<'a>),
 }

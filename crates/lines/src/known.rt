@@ -11,48 +11,31 @@ use terms::{Atom, Node};
 pub(crate) fn atom_name(names: &Names, atom: Atom) -> &[u8]
     ensures { result.now ≡ name_or_none (atoms_in names.now) atom.0 }
 {
-    match names.atom_name(atom) {
-        Some(name) => name,
-        None => &[],
-    }
+    names.atom_name(atom).unwrap_or(&[])
 }
 
 /// The name of a node, or no bytes.
 pub(crate) fn node_name(names: &Names, node: Node) -> &[u8]
     ensures { result.now ≡ name_or_none (nodes_in names.now) node.0 }
 {
-    match names.node_name(node) {
-        Some(name) => name,
-        None => &[],
-    }
+    names.node_name(node).unwrap_or(&[])
 }
 
 fn is_named(names: &Names, atom: Atom) -> bool
     ensures { result ≡ named (atoms_in names.now) atom }
 {
-    match names.atom_name(atom) {
-        Some(_) => true,
-        None => false,
-    }
+    names.atom_name(atom).is_some()
 }
 
 fn are_named(names: &Names, atoms: &[Atom]) -> bool
     ensures { result ≡ every (named (atoms_in names.now)) atoms.now }
 {
-    for a in atoms {
-        if !is_named(names, *a) {
-            return false;
-        }
-    }
-    true
+    atoms.iter().all(|atom| is_named(names, *atom))
 }
 
 /// Whether a node, the atoms of its path and those of a value have names.
 pub(crate) fn all_named(names: &Names, node: Node, path: &[Atom], value: &[Atom]) -> bool
     ensures { result ≡ all_named (nodes_in names.now) (atoms_in names.now) node path.now value.now }
 {
-    match names.node_name(node) {
-        Some(_) => are_named(names, path) && are_named(names, value),
-        None => false,
-    }
+    names.node_name(node).is_some() && are_named(names, path) && are_named(names, value)
 }

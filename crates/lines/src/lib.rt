@@ -4,6 +4,7 @@
 mod content;
 mod known;
 mod parts;
+mod pen;
 mod quoting;
 mod refusals;
 mod spelling;

@@ -1,29 +1,20 @@
 // The parts of a line.
-ghost use Rattle.std.specs.Prelude.{◌≡◌, ◌++◌};
+ghost use Rattle.std.specs.Prelude.{◌≡◌};
 ghost use Rattle.names.specs.Tables.{atoms_in};
 ghost use Rattle.engine.specs.States.{stop_of};
 ghost use Rattle.lines.specs.Bytes.{stop_bytes, placed_bytes};
 ghost use Rattle.lines.specs.Names.{names_of};
-ghost use Rattle.lines.specs.Lines.{question_spelled, word_bytes, said_by, answer_bytes, bytes_of};
-ghost use Rattle.lines.specs.Pages.{Spelled};
+ghost use Rattle.lines.specs.Lines.{question_spelled, word_bytes, said_by, answer_bytes, refused_bytes, bytes_of};
+ghost use Rattle.lines.specs.Pens.{Spells};
 
-use crate::content::{Answer, Content};
+use crate::content::{Answer, Content, Refused};
 use crate::known::node_name;
-use crate::spelling::{put, put_number, put_path, put_value};
+use crate::pen::Pen;
 use engine::Stop;
 use evaluator::Outcome;
 use names::Names;
 use sentences::Question;
 use terms::Atom;
-
-fn put_question(page: &mut [u8], at: usize, names: &Names, question: &Question) -> usize
-    ensures { Spelled page.old at (question_spelled names.now question.now) result page.new }
-{
-    let at = put(page, at, node_name(names, question.node()));
-    let at = put(page, at, b":<");
-    let at = put_path(page, at, names, question.path());
-    put(page, at, b">")
-}
 
 fn stop_word(stop: Stop) -> &'static [u8]
     ensures { result.now ≡ stop_bytes (stop_of stop) }
@@ -48,56 +39,58 @@ fn outcome_word(outcome: Outcome) -> &'static [u8]
     }
 }
 
-fn put_said(page: &mut [u8], at: usize, names: &Names, outcome: Outcome, value: &[Atom]) -> usize
-    ensures { Spelled page.old at (said_by outcome (names_of (atoms_in names.now) value.now)) result page.new }
-{
-    let at = put(page, at, outcome_word(outcome));
-    put_value(page, at, names, value)
-}
+impl Pen<'_> {
+    fn put_question(&mut self, names: &Names, question: &Question)
+        ensures { Spells self.old (question_spelled names.now question.now) self.new }
+    {
+        self.put(node_name(names, question.node()));
+        self.put(b":<");
+        self.put_path(names, question.path());
+        self.put(b">");
+    }
 
-fn put_answer(page: &mut [u8], at: usize, answer: Answer) -> usize
-    ensures { Spelled page.old at (answer_bytes answer.entry) result page.new }
-{
-    let at = put_question(page, at, answer.names, answer.question);
-    let at = put(page, at, b" ");
-    let at = put_said(page, at, answer.names, answer.outcome, answer.value);
-    let at = put(page, at, b" [");
-    let at = put_number(page, at, answer.steps as usize);
-    put(page, at, b"]\n")
-}
+    fn put_said(&mut self, names: &Names, outcome: Outcome, value: &[Atom])
+        ensures { Spells self.old (said_by outcome (names_of (atoms_in names.now) value.now)) self.new }
+    {
+        self.put(outcome_word(outcome));
+        self.put_value(names, value);
+    }
 
-fn put_placed(page: &mut [u8], at: usize, number: u8, place: usize) -> usize
-    ensures { Spelled page.old at (placed_bytes number place) result page.new }
-{
-    let at = put_number(page, at, number as usize);
-    let at = put(page, at, b" ");
-    let at = put_number(page, at, place);
-    put(page, at, b"\n")
-}
+    fn put_answer(&mut self, answer: Answer)
+        ensures { Spells self.old (answer_bytes answer.entry) self.new }
+    {
+        self.put_question(answer.names, answer.question);
+        self.put(b" ");
+        self.put_said(answer.names, answer.outcome, answer.value);
+        self.put(b" [");
+        self.put_number(answer.steps as usize);
+        self.put(b"]\n");
+    }
 
-fn put_refused(
-    page: &mut [u8],
-    at: usize,
-    title: &[u8],
-    mark: &[u8],
-    number: u8,
-    place: usize,
-) -> usize
-    ensures { Spelled page.old at (title.now ++ (mark.now ++ placed_bytes number place)) result page.new }
-{
-    let at = put(page, at, title);
-    let at = put(page, at, mark);
-    put_placed(page, at, number, place)
-}
+    fn put_placed(&mut self, number: u8, place: usize)
+        ensures { Spells self.old (placed_bytes number place) self.new }
+    {
+        self.put_number(number as usize);
+        self.put(b" ");
+        self.put_number(place);
+        self.put(b"\n");
+    }
 
-/// Spells a line.
-pub(crate) fn put_line(page: &mut [u8], at: usize, content: Content) -> usize
-    ensures { Spelled page.old at (bytes_of content.entry) result page.new }
-{
-    match content {
-        Content::Answer(answer) => put_answer(page, at, answer),
-        Content::Refused(title, mark, number, place) => {
-            put_refused(page, at, title, mark, number, place)
+    fn put_refused(&mut self, refused: Refused)
+        ensures { Spells self.old (refused_bytes refused.entry) self.new }
+    {
+        self.put(refused.title);
+        self.put(refused.mark);
+        self.put_placed(refused.number, refused.place);
+    }
+
+    /// Spells a line.
+    pub(crate) fn put_line(&mut self, content: Content)
+        ensures { Spells self.old (bytes_of content.entry) self.new }
+    {
+        match content {
+            Content::Answer(answer) => self.put_answer(answer),
+            Content::Refused(refused) => self.put_refused(refused),
         }
     }
 }

@@ -2,24 +2,20 @@
 ghost use Rattle.std.specs.Prelude.{◌≡◌};
 ghost use Rattle.lines.specs.Refusals.{number};
 
-#[derive(Clone, Copy)]
+#[derive(Clone, Copy, PartialEq, Eq, Debug)]
 pub enum LineRefusal {
     /// No question is held.
-    Idle,
+    Idle = 14,
     /// A number that the line would spell has no name.
-    NoName,
+    NoName = 12,
     /// The line does not fit the rest of the page.
-    NoRoom,
+    NoRoom = 15,
 }
 
 impl LineRefusal {
     pub fn number(self) -> u8
         ensures { result ≡ number self }
     {
-        match self {
-            LineRefusal::Idle => 14,
-            LineRefusal::NoName => 12,
-            LineRefusal::NoRoom => 15,
-        }
+        self as u8
     }
 }

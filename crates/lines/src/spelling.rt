@@ -1,74 +1,61 @@
-// Bytes spelled into a page from a place on. What does not fit is left out, so that the empty page measures.
+// What a pen spells: numbers, and the names of atoms.
 ghost use Rattle.std.specs.Prelude.{◌∷◌, decimal};
 ghost use Rattle.names.specs.Tables.{atoms_in};
 ghost use Rattle.lines.specs.Bytes.{atom_bytes, value_bytes, spaced};
 ghost use Rattle.lines.specs.Names.{name_or_none, names_of};
-ghost use Rattle.lines.specs.Pages.{Spelled};
+ghost use Rattle.lines.specs.Pens.{Spells};
 
 use crate::known::atom_name;
+use crate::pen::Pen;
 use crate::quoting::is_bare;
+use itoa::Buffer;
 use names::Names;
 use terms::Atom;
 
-/// Spells bytes, and says where they end.
-pub(crate) fn put(page: &mut [u8], at: usize, bytes: &[u8]) -> usize
-    ensures { Spelled page.old at bytes.now result page.new }
-{
-    let end = at.saturating_add(bytes.len());
-    if end <= page.len() {
-        page[at..end].copy_from_slice(bytes);
+impl Pen<'_> {
+    /// Spells a number in decimal.
+    pub(crate) fn put_number(&mut self, n: usize)
+        ensures { Spells self.old (decimal n) self.new }
+    {
+        self.put(Buffer::new().format(n).as_bytes());
     }
-    end
-}
 
-/// Spells a number in decimal.
-pub(crate) fn put_number(page: &mut [u8], at: usize, n: usize) -> usize
-    ensures { Spelled page.old at (decimal n) result page.new }
-{
-    if n < 10 {
-        return put(page, at, &[b'0' + n as u8]);
+    /// Spells an atom's name, in quotes where it is not bare.
+    fn put_atom(&mut self, name: &[u8])
+        ensures { Spells self.old (atom_bytes name.now) self.new }
+    {
+        if is_bare(name) {
+            self.put(name);
+        } else {
+            self.put(b"'");
+            self.put(name);
+            self.put(b"'");
+        }
     }
-    let at = put_number(page, at, n / 10);
-    put(page, at, &[b'0' + (n % 10) as u8])
-}
 
-/// Spells an atom's name, in quotes where it is not bare.
-fn put_atom(page: &mut [u8], at: usize, name: &[u8]) -> usize
-    ensures { Spelled page.old at (atom_bytes name.now) result page.new }
-{
-    if is_bare(name) {
-        return put(page, at, name);
+    fn put_blank_and_atom(&mut self, names: &Names, atom: Atom)
+        ensures { Spells self.old (32 ∷ atom_bytes (name_or_none (atoms_in names.now) atom.0)) self.new }
+    {
+        self.put(b" ");
+        self.put_atom(atom_name(names, atom));
     }
-    let at = put(page, at, b"'");
-    let at = put(page, at, name);
-    put(page, at, b"'")
-}
 
-fn put_blank_and_atom(page: &mut [u8], at: usize, names: &Names, atom: Atom) -> usize
-    ensures { Spelled page.old at (32 ∷ atom_bytes (name_or_none (atoms_in names.now) atom.0)) result page.new }
-{
-    let at = put(page, at, b" ");
-    put_atom(page, at, atom_name(names, atom))
-}
-
-/// Spells the names of atoms, with a blank in front of each.
-pub(crate) fn put_value(page: &mut [u8], at: usize, names: &Names, atoms: &[Atom]) -> usize
-    ensures { Spelled page.old at (value_bytes (names_of (atoms_in names.now) atoms.now)) result page.new }
-{
-    let mut at = at;
-    for a in atoms {
-        at = put_blank_and_atom(page, at, names, *a);
+    /// Spells the names of atoms, with a blank in front of each.
+    pub(crate) fn put_value(&mut self, names: &Names, atoms: &[Atom])
+        ensures { Spells self.old (value_bytes (names_of (atoms_in names.now) atoms.now)) self.new }
+    {
+        for atom in atoms {
+            self.put_blank_and_atom(names, *atom);
+        }
     }
-    at
-}
 
-/// Spells the names of atoms, with a blank between each two.
-pub(crate) fn put_path(page: &mut [u8], at: usize, names: &Names, atoms: &[Atom]) -> usize
-    ensures { Spelled page.old at (spaced (names_of (atoms_in names.now) atoms.now)) result page.new }
-{
-    if atoms.is_empty() {
-        return at;
+    /// Spells the names of atoms, with a blank between each two.
+    pub(crate) fn put_path(&mut self, names: &Names, atoms: &[Atom])
+        ensures { Spells self.old (spaced (names_of (atoms_in names.now) atoms.now)) self.new }
+    {
+        if let Some((first, rest)) = atoms.split_first() {
+            self.put_atom(atom_name(names, *first));
+            self.put_value(names, rest);
+        }
     }
-    let at = put_atom(page, at, atom_name(names, atoms[0]));
-    put_value(page, at, names, &atoms[1..])
 }

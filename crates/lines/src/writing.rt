@@ -6,9 +6,9 @@ ghost use Rattle.lines.specs.Lines.{bytes_of, line_by};
 ghost use Rattle.lines.specs.Pages.{filled, page_after};
 ghost use Rattle.lines.specs.Refusals.{numbered};
 
-use crate::content::{Answer, Content};
+use crate::content::{Answer, Content, Refused};
 use crate::known::all_named;
-use crate::parts::put_line;
+use crate::pen::Pen;
 use crate::refusals::LineRefusal;
 use evaluator::Evaluator;
 use names::Names;
@@ -18,11 +18,14 @@ fn write_line(content: Content, page: &mut [u8], fill: usize) -> Result<usize, L
     ensures end { numbered result ≡ filled (line (bytes_of content.entry)) page.old fill }
     ensures page { page.new ≡ page_after (line (bytes_of content.entry)) page.old fill }
 {
-    let end = put_line(&mut [], fill, content);
+    let mut measure = Pen::new(&mut [], fill);
+    measure.put_line(content);
+    let end = measure.at;
     if end > page.len() {
         return Err(LineRefusal::NoRoom);
     }
-    put_line(page, fill, content);
+    let mut pen = Pen::new(page, fill);
+    pen.put_line(content);
     Ok(end)
 }
 
@@ -64,7 +67,13 @@ pub fn write_refused(
     ensures end { numbered result ≡ filled (line (refusal_bytes number place)) page.old fill }
     ensures page { page.new ≡ page_after (line (refusal_bytes number place)) page.old fill }
 {
-    write_line(Content::Refused(b"?", b" ", number, place), page, fill)
+    let question = Refused {
+        title: b"?",
+        mark: b" ",
+        number,
+        place,
+    };
+    write_line(Content::Refused(question), page, fill)
 }
 
 /// Writes the line of a text that is refused, with its title.
@@ -78,5 +87,11 @@ pub fn write_text_refused(
     ensures end { numbered result ≡ filled (line (title_bytes title.now number place)) page.old fill }
     ensures page { page.new ≡ page_after (line (title_bytes title.now number place)) page.old fill }
 {
-    write_line(Content::Refused(title, b" : ", number, place), page, fill)
+    let text = Refused {
+        title,
+        mark: b" : ",
+        number,
+        place,
+    };
+    write_line(Content::Refused(text), page, fill)
 }

@@ -8,56 +8,55 @@ use std::alloc::Global;
 use stores::{Keeper, Store};
 use terms::{Atom, Item, Node};
 
-// The length that is found, or 99.
-fn length<S: Store>(store: &S, node: u16, path: &[Atom]) -> usize {
-    match store.find(Node(node), path) {
-        Some(n) => n,
-        None => 99,
-    }
-}
-
-// The number of the atom that stands first in a right side of node 1, or 99.
-fn first<S: Store>(store: &S, left: &[Atom]) -> usize {
-    match store.item(Node(1), left, 0) {
-        Some(Item::Atom(a)) => a.0 as usize,
-        Some(_) => 98,
-        None => 99,
-    }
-}
-
-fn finds<S: Store>(store: &S) -> [usize; 4] {
+fn finds<S: Store>(store: &S) -> [Option<usize>; 4] {
     let path = [Atom(5), Atom(6), Atom(7)];
     [
-        length(store, 1, &path[0..0]),
-        length(store, 1, &path[0..2]),
-        length(store, 1, &path),
-        length(store, 2, &path),
+        store.find(Node(1), &path[0..0]),
+        store.find(Node(1), &path[0..2]),
+        store.find(Node(1), &path),
+        store.find(Node(2), &path),
     ]
 }
 
-fn items<S: Store>(store: &S) -> [usize; 4] {
+// What stands first in right sides of node 1.
+fn items<S: Store>(store: &S) -> [Option<Item>; 4] {
     let path = [Atom(5), Atom(6), Atom(7)];
     [
-        first(store, &path[0..0]),
-        first(store, &path[0..1]),
-        first(store, &path[0..2]),
-        first(store, &path),
+        store.item(Node(1), &path[0..0], 0),
+        store.item(Node(1), &path[0..1], 0),
+        store.item(Node(1), &path[0..2], 0),
+        store.item(Node(1), &path, 0),
     ]
 }
 
-fn line(rt: &HostRuntime, name: &str, numbers: &[usize]) -> anyhow::Result<()> {
-    print!(rt; "{name}:")?;
-    for n in numbers {
-        print!(rt; " {n}")?;
+// The lengths that are found, 99 for none.
+fn show_lengths(rt: &HostRuntime, lengths: [Option<usize>; 4]) -> anyhow::Result<()> {
+    print!(rt; "finds:")?;
+    for length in lengths {
+        print!(rt; " {}", length.unwrap_or(99))?;
+    }
+    println!(rt; "")?;
+    Ok(())
+}
+
+// The numbers of atoms, 98 for another item and 99 for none.
+fn show_items(rt: &HostRuntime, items: [Option<Item>; 4]) -> anyhow::Result<()> {
+    print!(rt; "items:")?;
+    for item in items {
+        match item {
+            Some(Item::Atom(a)) => print!(rt; " {}", a.0)?,
+            Some(_) => print!(rt; " 98")?,
+            None => print!(rt; " 99")?,
+        }
     }
     println!(rt; "")?;
     Ok(())
 }
 
 fn found<S: Store>(rt: &HostRuntime, name: &str, store: &S) -> anyhow::Result<()> {
-    line(rt, name, &[])?;
-    line(rt, "finds", &finds(store))?;
-    line(rt, "items", &items(store))
+    println!(rt; "{name}:")?;
+    show_lengths(rt, finds(store))?;
+    show_items(rt, items(store))
 }
 
 // The addendum has one of the theory's pairs, with an empty right side.

@@ -1,11 +1,14 @@
 -- One turn of reading a path's atoms.
-use Rattle.std.proofs.Common.{◌≡◌, ℕ, suc, ◌+◌, ◌<◌, ◌≤◌, min, Bool, true, false, cond, ltb, leb, List, [], ◌∷◌, ◌++◌, length, take, Some, None, Ok, Err, Result, sym, refl, ap, ◌∙◌, arith, length-append, Bor}
+use Rattle.std.proofs.Common.{◌≡◌, ℕ, suc, ◌+◌, ◌<◌, ◌≤◌, min, Bool, true, false, cond, ltb, leb, List, [], ◌∷◌, ◌++◌, length, take, Some, None, Ok, Err, Option, Result, is_ok, IsOk, OnOk, OnErr, ◌↔◌, sym, refl, ap, ◌∙◌, arith, length-append, Bor}
 use Rattle.std.proofs.lemmas.Bool.{cond-true, cond-false, ltb-true, ltb-false, leb-true, le-leb, lt-leb}
+use Rattle.std.specs.Option.{option_map}
+use Rattle.std.proofs.lemmas.Bool.Decides.{nat_tests}
 use Rattle.std.proofs.lemmas.List.{length-take, take_all, take-append-le}
 use Rattle.terms.specs.declared.items.Node.{Node}
 use Rattle.terms.specs.declared.items.Atom.{Atom}
 use Rattle.terms.specs.Limits.{atom_limit, path_limit}
 use Rattle.path.specs.declared.Path.{Path}
+use Rattle.path.specs.declared.PathFull.{PathFull}
 use Rattle.path.specs.Atoms.{atoms_of}
 use Rattle.names.specs.Numbers as numbers
 use Rattle.words.specs.declared.faults.WordRefusal.{WordRefusal}
@@ -15,7 +18,7 @@ use Rattle.words.specs.Words as words
 use Rattle.words.specs.Words.{Token, token}
 use Rattle.words.specs.Texts.{Words, fault_at, onward, word_count}
 use Rattle.grammar.specs.Texts.{Names, token_names}
-use Rattle.questions.specs.declared.faults.NameFault.{NameFault}
+use Rattle.faults.specs.declared.kinds.NameFault.{NameFault}
 use Rattle.questions.specs.Lines.{rejected, atom_of, is_greater, is_sign, to_the_end, in_path}
 use Rattle.questions.specs.Steps.{Grown, atom_or_fault, names_with_atom, within}
 use Rattle.questions.proofs.Growth
@@ -66,6 +69,15 @@ held_more p q a x b e eb eq = go b refl
           t ∙ sym (lt-leb (length (a ++ x ∷ [])) path_limit (omega (arith, l))),
         )
 
+-- what a push did
+abbrev pub Pushed : List Atom → Atom → Result (Unit {0}) PathFull → List Atom → Type 0
+Pushed p a r q = (is_ok r ≡ ltb (length p) path_limit) × (q ≡ cond (is_ok r) (p ++ a ∷ []) p)
+
+pub pushed : (p q : List Atom) (a : Atom) (r : Result (Unit {0}) PathFull) → (IsOk r ↔ (length p < path_limit)) → OnOk r (q ≡ p ++ a ∷ []) → OnErr r (q ≡ p)
+    → Pushed p a r q
+pushed p q a (Ok x) f o e = grind (arith, nat_tests)
+pushed p q a (Err x) f o e = grind (arith, nat_tests)
+
 -- what is not an atom
 pub no_atom : (w : Word) → ((x : Bor (List ℕ)) → w ≡ word.Atom x → ⊥) → (x : List ℕ) → token w ≡ Token.atom x → ⊥
 no_atom word.Less f x e = let z : ◌≡◌ {A = ℕ} 0 1 = cc in omega arith
@@ -80,6 +92,20 @@ no_atom (word.Node y) f x e = let z : ◌≡◌ {A = ℕ} 0 1 = cc in omega arit
 no_atom (word.Atom y) f x e = f y refl
 no_atom word.Stray f x e = let z : ◌≡◌ {A = ℕ} 0 1 = cc in omega arith
 no_atom word.End f x e = let z : ◌≡◌ {A = ℕ} 0 1 = cc in omega arith
+
+no_greater : (w : Word) → (w ≡ word.Greater → ⊥) → is_sign is_greater (token w) ≡ false
+no_greater word.Less f = refl
+no_greater word.Greater f = absurd (f refl)
+no_greater word.Colon f = refl
+no_greater word.Equals f = refl
+no_greater word.Stop f = refl
+no_greater word.Quote f = refl
+no_greater word.Open f = refl
+no_greater word.Close f = refl
+no_greater (word.Node y) f = refl
+no_greater (word.Atom y) f = refl
+no_greater word.Stray f = refl
+no_greater word.End f = refl
 
 -- what a word comes to within a path
 neither : (n : Node) (l : List Atom) (ns : Names) (t : Token) (s e : ℕ) (f : ℕ → Words) → ((x : List ℕ) → t ≡ Token.atom x → ⊥) → is_sign is_greater t ≡ false
@@ -109,21 +135,23 @@ module _ (ns : Names) (W : Words) (p : Path) (fits : Bool) (ns' : Names) (W' : W
   unfolding in_path
   at_fault r s q n = h.comes n ∙ ap (in_path n h.atoms ns') q
 
-  pub at_other : (w : Word) (s e : ℕ) (f : ℕ → Words) → W' ≡ onward s (token w) e f → ((x : Bor (List ℕ)) → w ≡ word.Atom x → ⊥) → false ≡ is_sign is_greater (token w)
+  pub at_other : (w : Word) (s e : ℕ) (f : ℕ → Words) → W' ≡ onward s (token w) e f → ((x : Bor (List ℕ)) → w ≡ word.Atom x → ⊥) → (w ≡ word.Greater → ⊥)
       → (n : Node) → in_path n [] ns W ≡ rejected 4 s
-  at_other w s e f q g i n = h.comes n ∙ ap (in_path n h.atoms ns') q ∙ neither n h.atoms ns' (token w) s e f (no_atom w g) (sym i)
+  at_other w s e f q g i n = h.comes n ∙ ap (in_path n h.atoms ns') q ∙ neither n h.atoms ns' (token w) s e f (no_atom w g) (no_greater w i)
 
-  pub at_greater : (w : Word) (s e : ℕ) (f : ℕ → Words) → W' ≡ onward s (token w) e f → true ≡ is_sign is_greater (token w)
+  pub at_greater : (w : Word) (s e : ℕ) (f : ℕ → Words) → W' ≡ onward s (token w) e f → w ≡ word.Greater
       → (n : Node) → in_path n [] ns W ≡ to_the_end n h.atoms ns' (f e)
-  at_greater w s e f q i n = h.comes n ∙ ap (in_path n h.atoms ns') q ∙ greater n h.atoms ns' (token w) s e f (sym i)
+  at_greater w s e f q i n =
+      h.comes n ∙ ap (in_path n h.atoms ns') q ∙ greater n h.atoms ns' (token w) s e f (ap (λ (w : Word). is_sign is_greater (token w)) i)
 
-  pub all_held : fits ≡ true → Some (atoms_of p) ≡ within h.atoms
-  all_held t =
-      let k : length h.atoms ≤ path_limit = leb-true (length h.atoms) path_limit (sym h.fit ∙ t) in
-      ap Some (h.held ∙ take_all path_limit h.atoms k) ∙ sym (cond-true _ _ _ (sym h.fit ∙ t))
-
-  pub not_held : fits ≡ false → None ≡ within h.atoms
-  not_held t = sym (cond-false _ _ _ (sym h.fit ∙ t))
+  pub all_held : (r : Option Path) → r ≡ cond fits (Some p) None → option_map atoms_of r ≡ within h.atoms
+  all_held r e = ap (option_map atoms_of) e ∙ go fits refl
+    where
+      go : (b : Bool) → fits ≡ b → option_map atoms_of (cond b (Some p) None) ≡ within h.atoms
+      go true t =
+          let k : length h.atoms ≤ path_limit = leb-true (length h.atoms) path_limit (sym h.fit ∙ t) in
+          ap Some (h.held ∙ take_all path_limit h.atoms k) ∙ sym (cond-true _ _ _ (sym h.fit ∙ t))
+      go false t = sym (cond-false _ _ _ (sym h.fit ∙ t))
 
   module _ (w : Word) (x : Bor (List ℕ)) (s e : ℕ) (f : ℕ → Words) (q : W' ≡ onward s (token w) e f) (is : w ≡ word.Atom x) where
     atom_here : W' ≡ onward s (Token.atom x.now) e f
@@ -143,15 +171,15 @@ module _ (ns : Names) (W : Words) (p : Path) (fits : Bool) (ns' : Names) (W' : W
         go true g = let z : ◌≡◌ {A = ℕ} 0 1 = cc in absurd (omega arith)
         go false g = let z : i ≡ record { place = s } = cc in ap (λ (i : NameFault). rejected 10 i.place) (sym z)
 
-    pub at_atom : (a : Atom) (ns'' : Names) (p' : Path) (fits' : Bool) → Ok a ≡ atom_or_fault ns' x.now s → ns'' ≡ names_with_atom ns' x.now
-        → fits' ≡ ltb (length (atoms_of p)) path_limit → atoms_of p' ≡ cond fits' (atoms_of p ++ a ∷ []) (atoms_of p) → Reading ns W p' fits' ns'' (f e)
-    at_atom a ns'' p' fits' g m eb eq = go (ltb (numbers.number ns'.atoms x.now) atom_limit) refl
+    pub at_atom : (a : Atom) (ns'' : Names) (p' : Path) (r : Result (Unit {0}) PathFull) → Ok a ≡ atom_or_fault ns' x.now s → ns'' ≡ names_with_atom ns' x.now
+        → Pushed (atoms_of p) a r (atoms_of p') → Reading ns W p' (is_ok r) ns'' (f e)
+    at_atom a ns'' p' r g m pushed = go (ltb (numbers.number ns'.atoms x.now) atom_limit) refl
       where
-        go : (b : Bool) → ltb (numbers.number ns'.atoms x.now) atom_limit ≡ b → Reading ns W p' fits' ns'' (f e)
+        go : (b : Bool) → ltb (numbers.number ns'.atoms x.now) atom_limit ≡ b → Reading ns W p' (is_ok r) ns'' (f e)
         go true t =
             let z : a ≡ atom_of ns' x.now = ok_is (g ∙ cond-true _ _ _ t) in
             let y : ns'' ≡ token_names ns' (Token.atom x.now) = m ∙ cond-true _ _ _ t in
-            let k = held_more (atoms_of p) (atoms_of p') h.atoms a fits' h.held eb eq in
+            let k = held_more (atoms_of p) (atoms_of p') h.atoms a (is_ok r) h.held pushed.0 pushed.1 in
             record {
               atoms = h.atoms ++ a ∷ [];
               held = k.0;

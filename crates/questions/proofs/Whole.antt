@@ -11,7 +11,7 @@ use Rattle.words.specs.declared.reader.WordReader.{WordReader}
 use Rattle.words.specs.Words.{Token, token}
 use Rattle.words.specs.Texts.{Words, onward, words_from, words_of}
 use Rattle.grammar.specs.Texts.{Names, token_names}
-use Rattle.questions.specs.declared.faults.LineFault.{LineFault}
+use Rattle.questions.specs.declared.line_fault.LineFault.{LineFault}
 use Rattle.questions.specs.declared.asked.Asked.{Asked}
 use Rattle.questions.specs.Refusals.{line_limit}
 use Rattle.questions.specs.Lines.{rejected, node_of, behind_node, line_from, read_line, names_left, line_of}

@@ -12,7 +12,7 @@ use Rattle.words.specs.Words.{Sign, Token}
 use Rattle.words.specs.Texts.{Words, end_at, fault_at, words_of}
 use Rattle.grammar.specs.Texts.{Names, token_names}
 use Rattle.questions.specs.declared.asked.Asked.{Asked}
-use Rattle.questions.specs.declared.faults.LineFault.{LineFault}
+use Rattle.questions.specs.declared.line_fault.LineFault.{LineFault}
 use Rattle.questions.specs.Refusals as refusals
 use Rattle.questions.specs.Refusals.{line_limit}
 

@@ -1,8 +1,8 @@
 -- The number and place of a line's fault.
 use Rattle.std.specs.Prelude.{ℕ}
 use Rattle.words.specs.Words as words
-use Rattle.questions.specs.declared.faults.LineFault.{LineFault}
-use Rattle.questions.specs.declared.faults.LineFault.TheVariants as fault
+use Rattle.questions.specs.declared.line_fault.LineFault.{LineFault}
+use Rattle.questions.specs.declared.line_fault.LineFault.TheVariants as fault
 
 -- a line has at most so many bytes
 abbrev pub line_limit : ℕ

@@ -10,15 +10,14 @@ use Rattle.names.specs.Numbers as numbers
 use Rattle.words.specs.declared.faults.WordFault.{WordFault}
 use Rattle.words.specs.declared.reader.WordReader.{WordReader}
 use Rattle.words.specs.declared.word.Placed.{Placed}
+use Rattle.words.specs.declared.word.Word.{Word}
 use Rattle.words.specs.Words.{Sign, Token, token, name_limit}
 use Rattle.words.specs.Texts.{Words, fault_at, onward, words_from}
 use Rattle.grammar.specs.Texts.{Names, token_names}
-use Rattle.questions.specs.declared.faults.LineFault.{LineFault}
-use Rattle.questions.specs.declared.faults.NameFault.{NameFault}
+use Rattle.questions.specs.declared.line_fault.LineFault.{LineFault}
+use Rattle.faults.specs.declared.kinds.NameFault.{NameFault}
 use Rattle.questions.specs.declared.asked.Asked.{Asked}
-use Rattle.questions.specs.declared.parts.Expected.{Expected}
-use Rattle.questions.specs.declared.parts.Expected.TheVariants as expected
-use Rattle.questions.specs.Lines.{Line, asks, faulted, node_of, atom_of, is_colon_lem, is_less_lem, past, to_the_end, in_path, behind_node}
+use Rattle.questions.specs.Lines.{Line, asks, faulted, node_of, atom_of, is_sign, past, to_the_end, in_path, behind_node}
 
 -- names that have more behind them
 abbrev pub Longer : List (List ℕ) → List (List ℕ) → Type 0
@@ -42,9 +41,9 @@ Short (Token.node x) = length x ≤ name_limit
 Short (Token.atom x) = length x ≤ name_limit
 Short Token.text_end = Unit {0}
 
-abbrev pub test_of : Expected → Sign → Bool
-test_of expected.Colon = is_colon_lem
-test_of expected.Less = is_less_lem
+-- by what a test of words returns: it tests whether a word is the sign
+abbrev pub TestsSign : (Word → Bool → Type 0) → (Sign → Bool) → Type 0
+TestsSign returns sign = (w : Word) (b : Bool) → returns w b → b ≡ is_sign sign (token w)
 
 -- a sign is passed, and the line goes on behind it
 abbrev pub passed : Result (Unit {0}) LineFault → Line → Line

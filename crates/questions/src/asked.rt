@@ -2,7 +2,7 @@
 use path::Path;
 use terms::Node;
 
-#[derive(Clone, Copy)]
+#[derive(Clone, Copy, PartialEq, Eq, Debug)]
 pub struct Asked {
     pub node: Node,
     pub path: Path,

@@ -1,48 +1,17 @@
 // The parts of a line in turn: a node, a colon, a path of atoms.
-ghost use Rattle.std.specs.Prelude.{◌≡◌, ◌≤◌, length, IfOk};
-ghost use Rattle.words.specs.Words.{token};
+ghost use Rattle.std.specs.Prelude.{◌≡◌, ◌≤◌, Bool, length, IfOk};
+ghost use Rattle.words.specs.Words.{Sign, token};
 ghost use Rattle.words.specs.Texts.{words_of};
-ghost use Rattle.words.specs.Tallies.{is_end_lem};
-ghost use Rattle.questions.specs.Lines.{is_greater, is_sign, line_from, line_of, names_of};
-ghost use Rattle.questions.specs.Steps.{Grown, words_left, read_as, Short, test_of, Passes, node_or_fault, names_with_node, atom_or_fault, names_with_atom, ReadsAtoms, ReadsPath, Unnamed};
+ghost use Rattle.questions.specs.Lines.{line_from, line_of, names_of};
+ghost use Rattle.questions.specs.Steps.{Grown, words_left, read_as, Short, TestsSign, Passes, node_or_fault, names_with_node, atom_or_fault, names_with_atom, ReadsAtoms, ReadsPath, Unnamed};
 
 use crate::asked::Asked;
-use crate::faults::{LineFault, NameFault};
+use crate::line_fault::LineFault;
+use faults::NameFault;
 use names::Names;
 use path::Path;
 use terms::{Atom, Node};
 use words::{Placed, Word, WordFault, WordReader};
-
-/// The signs in front of a path.
-#[derive(Clone, Copy)]
-enum Expected {
-    Colon,
-    Less,
-}
-
-fn is_expected(word: Word<'_>, sign: Expected) -> bool
-    ensures { result ≡ is_sign (test_of sign) (token word.entry) }
-{
-    match sign {
-        Expected::Colon => match word {
-            Word::Colon => true,
-            _ => false,
-        },
-        Expected::Less => match word {
-            Word::Less => true,
-            _ => false,
-        },
-    }
-}
-
-fn is_greater(word: Word<'_>) -> bool
-    ensures { result ≡ is_sign is_greater (token word.entry) }
-{
-    match word {
-        Word::Greater => true,
-        _ => false,
-    }
-}
 
 fn next_word<'a>(reader: &mut WordReader<'a>) -> Result<Placed<'a>, WordFault>
     ensures words { words_left reader.old ≡ read_as result reader.new }
@@ -51,26 +20,29 @@ fn next_word<'a>(reader: &mut WordReader<'a>) -> Result<Placed<'a>, WordFault>
     reader.next()
 }
 
-fn pass(reader: &mut WordReader<'_>, sign: Expected) -> Result<(), LineFault>
-    ensures { Passes (test_of sign) (words_left reader.old) result (words_left reader.new) }
+// Passes the next word, which has to be the expected sign.
+fn pass<'a, F: Fn(Word<'a>) -> bool>(
+    reader: &mut WordReader<'a>,
+    is_expected: F,
+) -> Result<(), LineFault>
+    requires { F.IsAlwaysCallable is_expected }
+    ensures { (sign : Sign → Bool) → TestsSign (F.post is_expected) sign → Passes sign (words_left reader.old) result (words_left reader.new) }
 {
     let next = next_word(reader)?;
-    if is_expected(next.word, sign) {
+    if is_expected(next.word) {
         Ok(())
     } else {
         Err(LineFault::Misplaced(next.place))
     }
 }
 
+// Kept: the two tables' calls differ in all but the fault, and a trait for a line each would be longer.
 fn numbered_node(names: &mut Names, name: &[u8], place: usize) -> Result<Node, NameFault>
     requires { length name.now ≤ 32 }
     ensures gives { result ≡ node_or_fault (names_of names.old) name.now place }
     ensures names { names_of names.new ≡ names_with_node (names_of names.old) name.now }
 {
-    match names.node(name) {
-        Ok(node) => Ok(node),
-        Err(_) => Err(NameFault { place }),
-    }
+    names.node(name).or(Err(NameFault { place }))
 }
 
 fn numbered_atom(names: &mut Names, name: &[u8], place: usize) -> Result<Atom, NameFault>
@@ -78,10 +50,7 @@ fn numbered_atom(names: &mut Names, name: &[u8], place: usize) -> Result<Atom, N
     ensures gives { result ≡ atom_or_fault (names_of names.old) name.now place }
     ensures names { names_of names.new ≡ names_with_atom (names_of names.old) name.now }
 {
-    match names.atom(name) {
-        Ok(atom) => Ok(atom),
-        Err(_) => Err(NameFault { place }),
-    }
+    names.atom(name).or(Err(NameFault { place }))
 }
 
 // The atoms of a path and its >; none where they are more than a path may have.
@@ -90,30 +59,17 @@ fn path_atoms(reader: &mut WordReader<'_>, names: &mut Names) -> Result<Option<P
     ensures grows { Grown (names_of names.old) (names_of names.new) }
 {
     let mut path = Path::new();
-    let mut fits = true;
+    let mut held = Ok(());
     loop {
         let next = next_word(reader)?;
         match next.word {
             Word::Atom(name) => {
                 let atom = numbered_atom(names, name, next.place)?;
-                fits = path.push(atom);
+                held = path.push(atom);
             }
-            _ => {
-                if !is_greater(next.word) {
-                    return Err(LineFault::Misplaced(next.place));
-                }
-                return Ok(if fits { Some(path) } else { None });
-            }
+            Word::Greater => return Ok(held.ok().map(|()| path)),
+            _ => return Err(LineFault::Misplaced(next.place)),
         }
-    }
-}
-
-fn is_end(word: Word<'_>) -> bool
-    ensures { result ≡ is_end_lem (token word.entry) }
-{
-    match word {
-        Word::End => true,
-        _ => false,
     }
 }
 
@@ -122,11 +78,11 @@ fn path_to_end(reader: &mut WordReader<'_>, names: &mut Names) -> Result<Path, L
     ensures reads { ReadsPath (names_of names.old) (words_left reader.old) result (names_of names.new) }
     ensures grows { Grown (names_of names.old) (names_of names.new) }
 {
-    pass(reader, Expected::Colon)?;
-    pass(reader, Expected::Less)?;
+    pass(reader, |word| matches!(word, Word::Colon))?;
+    pass(reader, |word| matches!(word, Word::Less))?;
     let path = path_atoms(reader, names)?;
     let last = next_word(reader)?;
-    if !is_end(last.word) {
+    if !matches!(last.word, Word::End) {
         return Err(LineFault::Misplaced(last.place));
     }
     path.ok_or(LineFault::PathTooLong)

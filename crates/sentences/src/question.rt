@@ -1,7 +1,6 @@
-// Questions: a first one, and the test for a circle.
+// Questions: a first one, and one in the same context.
 ghost use Rattle.std.specs.Prelude.{◌≡◌};
 ghost use Rattle.rules.specs.Questions.{own, same};
-ghost use Rattle.rules.specs.Evaluation.{same_question};
 ghost use Rattle.path.specs.Atoms.{atoms_of};
 ghost use Rattle.sentences.specs.Kept.{question_of};
 
@@ -44,15 +43,5 @@ impl Question {
         ensures { result.now ≡ (question_of self.now).path }
     {
         self.path.as_slice()
-    }
-
-    /// Equal in node, path and context. The nodes are compared first: they differ most often, and cost least.
-    pub fn same(&self, other: &Question) -> bool
-        ensures { result ≡ same_question (question_of self.now) (question_of other.now) }
-    {
-        other.node.0 == self.node.0
-            && other.global_node.0 == self.global_node.0
-            && self.path.same(&other.path)
-            && self.global_path.same(&other.global_path)
     }
 }

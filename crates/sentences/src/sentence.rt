@@ -1,16 +1,24 @@
 // An open sentence: how it goes on, and the questions that its terms ask.
 ghost use Rattle.std.specs.Prelude.{◌≡◌, ◌+◌, ◌<◌};
 ghost use Rattle.terms.specs.Limits.{item_limit};
+ghost use Rattle.rules.specs.Evaluation.{same_question};
 ghost use Rattle.rules.specs.Table.{node_asks_lem, path_asks_lem};
 ghost use Rattle.machine.specs.Items.{onward};
 ghost use Rattle.path.specs.Atoms.{atoms_of};
-ghost use Rattle.sentences.specs.Kept.{position_of, site_of, Extended, Asks};
+ghost use Rattle.sentences.specs.Kept.{question_of, position_of, site_of, Extended, Asks};
 
 use crate::table::{Inside, Open, Question};
 use path::Path;
 use terms::{Atom, Node, Quoting};
 
 impl Open {
+    /// Whether it is open for this question: for the same node and path, in the same context.
+    pub fn is_for(&self, question: &Question) -> bool
+        ensures { result ≡ same_question (question_of question.now) (question_of self.now.at) }
+    {
+        *question == self.at
+    }
+
     /// What the left path leaves of the question's path.
     fn extension(&self) -> &[Atom]
         ensures { result.now ≡ (site_of self.now).extension }
@@ -24,11 +32,8 @@ impl Open {
         ensures { Extended result (atoms_of front) (site_of self.now).extension }
     {
         let mut path = front;
-        if path.extend(self.extension()) {
-            Some(path)
-        } else {
-            None
-        }
+        path.extend(self.extension()).ok()?;
+        Some(path)
     }
 
     /// The question that a node asks, or none if its path has over 32 atoms.
@@ -37,10 +42,9 @@ impl Open {
     {
         match quoting {
             Quoting::Plain => Some(self.at.in_context(node, self.at.path)),
-            Quoting::Quoted => match self.extended(self.at.global_path) {
-                Some(path) => Some(Question::first(node, path)),
-                None => None,
-            },
+            Quoting::Quoted => self
+                .extended(self.at.global_path)
+                .map(|path| Question::first(node, path)),
         }
     }
 
@@ -48,9 +52,7 @@ impl Open {
     pub fn path_asks(&self, inside: Inside) -> Option<Question>
         ensures { Asks result (path_asks_lem (site_of self.now) inside.quoting inside.node (atoms_of inside.atoms)) }
     {
-        let Some(path) = self.extended(inside.atoms) else {
-            return None;
-        };
+        let path = self.extended(inside.atoms)?;
         Some(match (inside.quoting, inside.node) {
             (Quoting::Plain, Some(node)) => self.at.in_context(node, path),
             (Quoting::Plain, None) => self.at.in_context(self.at.node, path),

@@ -6,25 +6,26 @@ use flat::FlatList;
 use stores::{Keeper, Refusal, Store};
 use terms::{Atom, Item, Node, Quoting};
 use tree::PrefixTree;
-// 0, or the number of the refusal.
-fn number(answer: Result<(), Refusal>) -> u8 {
-    match answer {
-        Ok(()) => 0,
-        Err(refusal) => refusal.number(),
-    }
-}
+
+type Answer = Result<(), Refusal>;
 
 // So many atoms and items.
-fn of_lengths<K: Keeper>(keeper: &mut K, node: u16, atoms: usize, items: usize) -> u8 {
+fn of_lengths<K: Keeper>(keeper: &mut K, node: u16, atoms: usize, items: usize) -> Answer {
     let left = [Atom(1); 40];
     let right = [Item::Atom(Atom(1)); 80];
     let atoms = atoms.min(40);
     let items = items.min(80);
-    number(keeper.add(Node(node), &left[0..atoms], &right[0..items]))
+    keeper.add(Node(node), &left[0..atoms], &right[0..items])
 }
 
 // So many openings, then so many closes.
-fn of_paths<K: Keeper>(keeper: &mut K, node: u16, atoms: usize, opens: usize, closes: usize) -> u8 {
+fn of_paths<K: Keeper>(
+    keeper: &mut K,
+    node: u16,
+    atoms: usize,
+    opens: usize,
+    closes: usize,
+) -> Answer {
     let o = Item::Open(Quoting::Plain, None);
     let c = Item::Close;
     let left = [Atom(1); 40];
@@ -32,23 +33,23 @@ fn of_paths<K: Keeper>(keeper: &mut K, node: u16, atoms: usize, opens: usize, cl
     let atoms = atoms.min(40);
     let from = 5 - opens.min(5);
     let to = 5 + closes.min(5);
-    number(keeper.add(Node(node), &left[0..atoms], &right[from..to]))
+    keeper.add(Node(node), &left[0..atoms], &right[from..to])
 }
 
-fn of_item<K: Keeper>(keeper: &mut K, node: u16, atom: u16, item: Item) -> u8 {
-    number(keeper.add(Node(node), &[Atom(atom)], &[item]))
+fn of_item<K: Keeper>(keeper: &mut K, node: u16, atom: u16, item: Item) -> Answer {
+    keeper.add(Node(node), &[Atom(atom)], &[item])
 }
 
 // A path with a node in front.
-fn of_path<K: Keeper>(keeper: &mut K, node: u16, front: u16) -> u8 {
-    number(keeper.add(
+fn of_path<K: Keeper>(keeper: &mut K, node: u16, front: u16) -> Answer {
+    keeper.add(
         Node(node),
         &[],
         &[Item::Open(Quoting::Plain, Some(Node(front))), Item::Close],
-    ))
+    )
 }
 
-fn lengths<K: Keeper>(keeper: &mut K) -> [u8; 5] {
+fn lengths<K: Keeper>(keeper: &mut K) -> [Answer; 5] {
     keeper.clear();
     let a = of_lengths(keeper, 0, 32, 0);
     let b = of_lengths(keeper, 1, 33, 0);
@@ -58,7 +59,7 @@ fn lengths<K: Keeper>(keeper: &mut K) -> [u8; 5] {
     [a, b, c, d, e]
 }
 
-fn nested<K: Keeper>(keeper: &mut K) -> [u8; 5] {
+fn nested<K: Keeper>(keeper: &mut K) -> [Answer; 5] {
     keeper.clear();
     let a = of_paths(keeper, 0, 0, 4, 4);
     let b = of_paths(keeper, 1, 0, 5, 5);
@@ -68,7 +69,7 @@ fn nested<K: Keeper>(keeper: &mut K) -> [u8; 5] {
     [a, b, c, d, e]
 }
 
-fn ranges<K: Keeper>(keeper: &mut K) -> [u8; 6] {
+fn ranges<K: Keeper>(keeper: &mut K) -> [Answer; 6] {
     keeper.clear();
     let atom = Item::Atom(Atom(4095));
     let a = of_item(keeper, 1023, 4095, atom);
@@ -80,7 +81,7 @@ fn ranges<K: Keeper>(keeper: &mut K) -> [u8; 6] {
     [a, b, c, d, e, f]
 }
 
-fn pairs<K: Keeper>(keeper: &mut K) -> [u8; 4] {
+fn pairs<K: Keeper>(keeper: &mut K) -> [Answer; 4] {
     keeper.clear();
     let item = Item::Node(Quoting::Plain, Node(1023));
     let a = of_item(keeper, 5, 6, item);
@@ -90,10 +91,14 @@ fn pairs<K: Keeper>(keeper: &mut K) -> [u8; 4] {
     [a, b, c, d]
 }
 
-fn line(rt: &HostRuntime, name: &str, numbers: &[u8]) -> anyhow::Result<()> {
+// 0, or the number of the refusal, of each answer. Kept in each of two programs: a crate for one loop that prints is no plainer.
+fn line(rt: &HostRuntime, name: &str, answers: &[Answer]) -> anyhow::Result<()> {
     print!(rt; "{name}:")?;
-    for n in numbers {
-        print!(rt; " {n}")?;
+    for answer in answers {
+        match answer {
+            Ok(()) => print!(rt; " 0")?,
+            Err(refusal) => print!(rt; " {}", refusal.number())?,
+        }
     }
     println!(rt; "")?;
     Ok(())

@@ -1,10 +1,11 @@
 // Each text beside its words, by hand from the rules.
 use crate::listing;
-use std::alloc::{AllocError, Global};
+use std::alloc::Global;
+use std::io;
 use std::test::Fail;
 
 // Where the first case stands that is listed otherwise, if there is one.
-fn first_other(heap: Global, cases: &[(&[u8], &[u8])]) -> Result<Option<usize>, AllocError> {
+fn first_other(heap: Global, cases: &[(&[u8], &[u8])]) -> io::Result<Option<usize>> {
     for (i, case) in cases.iter().enumerate() {
         let listed = listing(heap, case.0)?;
         if listed.as_slice() != case.1 {

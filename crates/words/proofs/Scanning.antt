@@ -3,12 +3,10 @@ use Rattle.std.proofs.Common.{◌≡◌, ℕ, ◌+◌, ◌<◌, ◌≤◌, Bool,
 use Rattle.std.specs.List.{prefix_len}
 use Rattle.std.proofs.lemmas.List.{at_drop_more, at_drop_all, drop_more}
 use Rattle.std.proofs.lemmas.Bool.{cond-true, cond-false}
-use Rattle.classes.specs.declared.Mark.{Mark}
 use Rattle.classes.specs.declared.ByteClass.{ByteClass}
 use Rattle.classes.specs.declared.ByteClass.TheVariants as class
 use Rattle.classes.specs.Classes.{class_of}
-use Rattle.words.specs.declared.faults.WordRefusal.TheVariants.{BadByte}
-use Rattle.words.specs.Words.{gap, blank_byte, of_name, read, refused, text_end, node, atom, bare, marked, starting, word_from}
+use Rattle.words.specs.Words.{gap, blank_byte, of_name, node, atom, bare, starting, word_from}
 
 module _ (xs : List ℕ) (i : ℕ) where
   pub gap_end_lem : (c : Bool) → length xs ≤ i → gap c (drop i xs) ≡ 0
@@ -31,15 +29,6 @@ module _ (text : List ℕ) (s : ℕ) (h : s < length text) where
   begins : (k : ByteClass) → k ≡ class_of (get_or text s 0) → word_from s (drop s text) ≡ starting s k (get_or text s 0) (drop (s + 1) text)
   begins k e = at_drop_more (word_from s) text s 0 h ∙ ap (λ k. starting s k (get_or text s 0) (drop (s + 1) text)) (sym e)
 
-  pub at_bad : class.Bad ≡ class_of (get_or text s 0) → word_from s (drop s text) ≡ refused BadByte s
-  at_bad e = begins class.Bad e
-
-  pub at_blank : class.Blank ≡ class_of (get_or text s 0) → word_from s (drop s text) ≡ refused BadByte s
-  at_blank e = begins class.Blank e
-
-  pub at_mark : (m : Mark) → class.Mark m ≡ class_of (get_or text s 0) → word_from s (drop s text) ≡ marked s m (drop (s + 1) text)
-  at_mark m e = begins (class.Mark m) e
-
   pub at_capital : class.Capital ≡ class_of (get_or text s 0)
       → word_from s (drop s text) ≡ bare node s (drop s text) (prefix_len (of_name false) (drop s text))
   at_capital e = begins class.Capital e ∙ ap (λ l. bare node s l (prefix_len (of_name false) l)) (sym (drop_more text s 0 h))
@@ -47,6 +36,3 @@ module _ (text : List ℕ) (s : ℕ) (h : s < length text) where
   pub at_plain : class.Plain ≡ class_of (get_or text s 0)
       → word_from s (drop s text) ≡ bare atom s (drop s text) (prefix_len (of_name false) (drop s text))
   at_plain e = begins class.Plain e ∙ ap (λ l. bare atom s l (prefix_len (of_name false) l)) (sym (drop_more text s 0 h))
-
-pub at_end : (text : List ℕ) (s : ℕ) → length text ≤ s → word_from s (drop s text) ≡ read s text_end s
-at_end text s h = at_drop_all (word_from s) text s h

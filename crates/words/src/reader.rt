@@ -3,7 +3,7 @@ ghost use Rattle.std.specs.Prelude.{◌≡◌, ◌≤◌, length};
 ghost use Rattle.words.specs.Words.{word_at, reading_of, place_after};
 
 use crate::faults::WordFault;
-use crate::scan::{gap_end, word_at};
+use crate::scan::{gap_len, word_at};
 use crate::word::Placed;
 
 #[derive(Clone, Copy)]
@@ -28,7 +28,7 @@ impl<'a> WordReader<'a> {
         ensures same { self.new.text ≡ self.old.text }
     {
         let text = self.text;
-        let place = gap_end(text, self.at);
+        let place = self.at + gap_len(&text[self.at..]);
         match word_at(text, place) {
             Ok((word, after)) => {
                 self.at = after;

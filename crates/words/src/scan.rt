@@ -7,63 +7,54 @@ use crate::faults::WordRefusal;
 use crate::word::Word;
 use classes::{ByteClass, Mark, class_of};
 
+// Kept here and in names: neither crate stands on the other, and each has the limit in its own definitions.
 const NAME_BYTES: usize = 32;
 
 fn is_blank(b: u8) -> bool
     ensures { result ≡ blank_byte b }
 {
-    match class_of(b) {
-        ByteClass::Blank => true,
-        _ => false,
-    }
+    matches!(class_of(b), ByteClass::Blank)
 }
 
-// Whether a byte goes on with a name.
-fn is_of_name(in_quotes: bool, b: u8) -> bool
-    ensures { result ≡ of_name in_quotes b }
+/// Whether a byte goes on with an unquoted name.
+pub fn is_of_bare_name(b: u8) -> bool
+    ensures { result ≡ of_name false b }
 {
-    if in_quotes {
-        return b >= 32 && b != 127 && b != b'\'';
-    }
-    match class_of(b) {
-        ByteClass::Capital | ByteClass::Plain => true,
-        _ => false,
-    }
+    matches!(class_of(b), ByteClass::Capital | ByteClass::Plain)
 }
 
-// The place behind the blanks and comments from a place on.
-pub(crate) fn gap_end(text: &[u8], from: usize) -> usize
-    requires { from ≤ length text.now }
-    ensures within { result ≤ length text.now }
-    ensures value { result ≡ from + gap false (drop from text.now) }
+// Whether a byte goes on with a name between quotes.
+fn is_of_quoted_name(b: u8) -> bool
+    ensures { result ≡ of_name true b }
 {
-    let mut i = from;
+    b >= 32 && b != 127 && b != b'\''
+}
+
+// How many bytes of blanks and comments stand in front.
+pub(crate) fn gap_len(bytes: &[u8]) -> usize
+    ensures within { result ≤ length bytes.now }
+    ensures value { result ≡ gap false bytes.now }
+{
     let mut in_comment = false;
-    while i < text.len() {
-        let b = text[i];
+    for (i, b) in bytes.iter().enumerate() {
         if in_comment {
-            in_comment = b != b'\n';
-        } else if b == b'%' {
+            in_comment = *b != b'\n';
+        } else if *b == b'%' {
             in_comment = true;
-        } else if !is_blank(b) {
+        } else if !is_blank(*b) {
             return i;
         }
-        i += 1;
     }
-    i
+    bytes.len()
 }
 
-// The place behind the bytes of a name from a place on.
-fn name_end(text: &[u8], from: usize, in_quotes: bool) -> usize
-    requires { from ≤ length text.now }
-    ensures within { result ≤ length text.now }
-    ensures value { result ≡ from + prefix_len (of_name in_quotes) (drop from text.now) }
+// How many bytes in front pass a test.
+fn run_len<F: Fn(u8) -> bool>(bytes: &[u8], passes: F) -> usize
+    requires { F.IsAlwaysCallable passes }
+    ensures within { result ≤ length bytes.now }
+    ensures value { (p : ℕ → Bool) → ((b : ℕ) (r : Bool) → F.post passes b r → r ≡ p b) → result ≡ prefix_len p bytes.now }
 {
-    let mut i = from;
-    while i < text.len() && is_of_name(in_quotes, text[i]) {
-        i += 1;
-    }
-    i
+    bytes.iter().take_while(|b| passes(**b)).count()
 }
 
 // An unquoted name, and the place behind it.
@@ -72,7 +63,7 @@ fn bare_name<'a>(text: &'a [u8], place: usize) -> Result<(&'a [u8], usize), Word
     ensures value { (f : List ℕ → Token) → named_by f place result ≡ bare f place (drop place text.now) (prefix_len (of_name false) (drop place text.now)) }
     ensures within { IfOk result (λ p. p.1 ≤ length text.now) }
 {
-    let end = name_end(text, place, false);
+    let end = place + run_len(&text[place..], is_of_bare_name);
     if end - place > NAME_BYTES {
         return Err(WordRefusal::NameLength);
     }
@@ -86,7 +77,7 @@ fn quoted_name<'a>(text: &'a [u8], place: usize) -> Result<(&'a [u8], usize), Wo
     ensures within { IfOk result (λ p. p.1 ≤ length text.now) }
 {
     let start = place + 1;
-    let end = name_end(text, start, true);
+    let end = start + run_len(&text[start..], is_of_quoted_name);
     if end == text.len() || text[end] != b'\'' {
         return Err(WordRefusal::OpenQuote);
     }

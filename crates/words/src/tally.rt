@@ -1,5 +1,5 @@
 // How many words a text has.
-ghost use Rattle.std.specs.Prelude.{◌≡◌, ◌+◌, ◌^◌, ◌<◌, ◌≤◌};
+ghost use Rattle.std.specs.Prelude.{◌≡◌, ◌+◌, ◌^◌, ◌<◌, ◌≤◌, false};
 ghost use Rattle.words.specs.Words.{token};
 ghost use Rattle.words.specs.Texts.{words_of, WordsAreExact};
 ghost use Rattle.words.specs.Tallies.{is_end_lem, counted, none, tallied};
@@ -9,45 +9,28 @@ use crate::reader::WordReader;
 use crate::word::Word;
 
 /// The words of a text, and how many of them are names of nodes and of atoms.
-#[derive(Clone, Copy, Debug, PartialEq)]
+#[derive(Clone, Copy, Debug, Default, PartialEq, Eq)]
 pub struct Tally {
     pub words: usize,
     pub nodes: usize,
     pub atoms: usize,
 }
 
-fn ends_text(word: Word<'_>) -> bool
-    ensures { result ≡ is_end_lem (token word.entry) }
-{
-    match word {
-        Word::End => true,
-        _ => false,
-    }
-}
-
-fn count(tally: Tally, word: Word<'_>) -> Tally
-    requires room { tally.words + 1 < 2 ^ 64 }
-    requires nodes { tally.nodes ≤ tally.words }
-    requires atoms { tally.atoms ≤ tally.words }
-    ensures { result ≡ counted tally (token word.entry) }
-{
-    let words = tally.words;
-    match word {
-        Word::Node(_) => Tally {
-            words: words + 1,
-            nodes: tally.nodes + 1,
-            ..tally
-        },
-        Word::Atom(_) => Tally {
-            words: words + 1,
-            atoms: tally.atoms + 1,
-            ..tally
-        },
-        Word::End => tally,
-        _ => Tally {
-            words: words + 1,
-            ..tally
-        },
+impl Tally {
+    // One word more, which is not the text's end.
+    fn count(&mut self, word: Word<'_>)
+        requires room { self.old.words + 1 < 2 ^ 64 }
+        requires nodes { self.old.nodes ≤ self.old.words }
+        requires atoms { self.old.atoms ≤ self.old.words }
+        requires some { is_end_lem (token word) ≡ false }
+        ensures { self.new ≡ counted self.old (token word.entry) }
+    {
+        self.words += 1;
+        match word {
+            Word::Node(_) => self.nodes += 1,
+            Word::Atom(_) => self.atoms += 1,
+            _ => {}
+        }
     }
 }
 
@@ -57,16 +40,12 @@ pub fn tally_words(text: &[u8]) -> Result<Tally, WordFault>
     ensures exact { WordsAreExact text.now }
 {
     let mut reader = WordReader::new(text);
-    let mut tally = Tally {
-        words: 0,
-        nodes: 0,
-        atoms: 0,
-    };
+    let mut tally = Tally::default();
     loop {
         let word = reader.next()?.word;
-        if ends_text(word) {
+        if word.is_end() {
             return Ok(tally);
         }
-        tally = count(tally, word);
+        tally.count(word);
     }
 }

@@ -1,6 +1,7 @@
 // A word, and where it stands.
+ghost use Rattle.std.specs.Prelude.{◌≡◌};
 
-#[derive(Clone, Copy)]
+#[derive(Clone, Copy, Debug, PartialEq, Eq)]
 pub enum Word<'a> {
     Less,
     Greater,
@@ -19,7 +20,18 @@ pub enum Word<'a> {
     End,
 }
 
-#[derive(Clone, Copy)]
+impl Word<'_> {
+    ghost use Rattle.words.specs.Words.{token};
+    ghost use Rattle.words.specs.Tallies.{is_end_lem};
+
+    pub(crate) fn is_end(self) -> bool
+        ensures { result ≡ is_end_lem (token self.entry) }
+    {
+        matches!(self, Word::End)
+    }
+}
+
+#[derive(Clone, Copy, Debug, PartialEq, Eq)]
 pub struct Placed<'a> {
     pub place: usize,
     pub word: Word<'a>,

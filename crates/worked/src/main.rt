@@ -9,6 +9,7 @@ mod theory;
 use addendum::Addendum;
 use engine::Machine;
 use evaluator::{Call, Evaluator, Outcome, evaluate};
+use filling::fill;
 use flat::FlatList;
 use pile::Pile;
 use stores::{Keeper, Store};
@@ -59,18 +60,16 @@ fn call_all<S: Store + Drop>(rt: &HostRuntime, store: S) -> anyhow::Result<()> {
     for c in calls::CALLS {
         print::refusal(rt, c.title, evaluator.call(c.call))?;
     }
-    let requests = evaluator.work_counting(4).unwrap_or(0);
-    println!(rt; "work 4: the store is asked {requests} times")?;
-    Ok(())
+    print::requests(rt, evaluator.work_counting(4))
 }
 
 /// The theory, over each store.
 fn worked(rt: &HostRuntime, list: &mut FlatList) -> anyhow::Result<()> {
     let mut prefixes = PrefixTree::new(rt.alloc())?;
     let mut addendum = Addendum::new(rt.alloc())?;
-    print::added(rt, theory::add_all(list, theory::THEORY))?;
-    print::added(rt, theory::add_all(&mut prefixes, theory::THEORY))?;
-    print::added(rt, theory::add_all(&mut addendum, theory::CHANGE))?;
+    print::added(rt, fill(list, theory::THEORY))?;
+    print::added(rt, fill(&mut prefixes, theory::THEORY))?;
+    print::added(rt, fill(&mut addendum, theory::CHANGE))?;
     ask_all(rt, "flat list", &*list)?;
     ask_all(rt, "prefix tree", &prefixes)?;
     ask_all(

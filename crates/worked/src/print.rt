@@ -5,31 +5,17 @@ use evaluator::{Evaluator, Outcome, Refusal};
 use stores::Store;
 use terms::{Atom, Node};
 
-fn node_name(node: Node) -> &'static str {
-    let n = node.0 as usize;
-    if n < theory::NODES.len() {
-        theory::NODES[n]
-    } else {
-        "?"
-    }
-}
-
-fn atom_name(atom: Atom) -> &'static str {
-    let n = atom.0 as usize;
-    if n < theory::ATOMS.len() {
-        theory::ATOMS[n]
-    } else {
-        "?"
-    }
+fn name_of(names: &[&'static str], number: u16) -> &'static str {
+    names.get(usize::from(number)).copied().unwrap_or("?")
 }
 
 pub(crate) fn question(rt: &HostRuntime, node: Node, path: &[Atom]) -> anyhow::Result<()> {
-    print!(rt; "{}:<", node_name(node))?;
+    print!(rt; "{}:<", name_of(theory::NODES, node.0))?;
     for (i, a) in path.iter().enumerate() {
         if i > 0 {
             print!(rt; " ")?;
         }
-        print!(rt; "{}", atom_name(*a))?;
+        print!(rt; "{}", name_of(theory::ATOMS, a.0))?;
     }
     print!(rt; ">")?;
     Ok(())
@@ -51,11 +37,8 @@ fn word(outcome: Outcome) -> &'static str {
 /// The outcome, the atoms of a value, and the steps.
 pub(crate) fn outcome<S: Store>(rt: &HostRuntime, evaluator: &Evaluator<S>) -> anyhow::Result<()> {
     print!(rt; "{}", word(evaluator.outcome()))?;
-    for place in 0..256 {
-        let Some(a) = evaluator.atom(place) else {
-            break;
-        };
-        print!(rt; " {}", atom_name(a))?;
+    for a in evaluator.value() {
+        print!(rt; " {}", name_of(theory::ATOMS, a.0))?;
     }
     println!(rt; " [{}]", evaluator.steps())?;
     Ok(())
@@ -63,15 +46,10 @@ pub(crate) fn outcome<S: Store>(rt: &HostRuntime, evaluator: &Evaluator<S>) -> a
 
 /// The outcome, how many atoms a value has, and the steps.
 pub(crate) fn count<S: Store>(rt: &HostRuntime, evaluator: &Evaluator<S>) -> anyhow::Result<()> {
-    let mut atoms = 0;
-    for place in 0..300 {
-        if evaluator.atom(place).is_some() {
-            atoms = place + 1;
-        }
-    }
     println!(rt;
-        "{} {atoms} [{}]",
+        "{} {} [{}]",
         word(evaluator.outcome()),
+        evaluator.value().len(),
         evaluator.steps()
     )?;
     Ok(())
@@ -82,20 +60,24 @@ pub(crate) fn refusal(
     title: &str,
     res: Result<(), Refusal>,
 ) -> anyhow::Result<()> {
-    let number = match res {
-        Ok(()) => 0,
-        Err(refusal) => refusal.number(),
-    };
-    println!(rt; "{title}: {number}")?;
+    match res {
+        Ok(()) => println!(rt; "{title}: 0")?,
+        Err(refusal) => println!(rt; "{title}: {}", refusal.number())?,
+    }
+    Ok(())
+}
+
+pub(crate) fn requests(rt: &HostRuntime, res: Result<u64, Refusal>) -> anyhow::Result<()> {
+    match res {
+        Ok(requests) => println!(rt; "work 4: the store is asked {requests} times")?,
+        Err(refusal) => println!(rt; "work 4: {}", refusal.number())?,
+    }
     Ok(())
 }
 
 pub(crate) fn added(rt: &HostRuntime, res: Result<(), stores::Refusal>) -> anyhow::Result<()> {
-    match res {
-        Ok(()) => Ok(()),
-        Err(refusal) => {
-            println!(rt; "refused: {}", refusal.number())?;
-            Ok(())
-        }
+    if let Err(refusal) = res {
+        println!(rt; "refused: {}", refusal.number())?;
     }
+    Ok(())
 }

@@ -1,5 +1,5 @@
 // The worked theory as sentences, an addendum that changes one form, and the questions that are asked.
-use stores::{Keeper, Refusal};
+use filling::Given;
 use terms::{Atom, Item, Node, Quoting};
 
 pub const NODES: &[&str; 10] = &[
@@ -77,19 +77,13 @@ const QUOTED_OPEN: Item = Item::Open(Quoting::Quoted, None);
 
 const CLOSE: Item = Item::Close;
 
-pub struct Sentence {
-    node: Node,
-    left: &'static [Atom],
-    right: &'static [Item],
-}
-
-pub const THEORY: &[Sentence; 21] = &[
-    Sentence {
+pub const THEORY: &[Given<'static>; 21] = &[
+    Given {
         node: WORD,
         left: &[CLASS],
         right: &[Item::Atom(NOUN)],
     },
-    Sentence {
+    Given {
         node: WORD,
         left: &[MANY],
         right: &[
@@ -101,87 +95,87 @@ pub const THEORY: &[Sentence; 21] = &[
             CLOSE,
         ],
     },
-    Sentence {
+    Given {
         node: WORD,
         left: &[ONE],
         right: &[QUOTED_OPEN, Item::Atom(STEM), CLOSE],
     },
-    Sentence {
+    Given {
         node: WORD,
         left: &[ENDING],
         right: &[Item::Atom(EN)],
     },
-    Sentence {
+    Given {
         node: LAMP,
         left: &[],
         right: &[Item::Node(Quoting::Plain, WORD)],
     },
-    Sentence {
+    Given {
         node: LAMP,
         left: &[STEM],
         right: &[Item::Atom(LAMP_STEM)],
     },
-    Sentence {
+    Given {
         node: CHILD,
         left: &[],
         right: &[Item::Node(Quoting::Plain, WORD)],
     },
-    Sentence {
+    Given {
         node: CHILD,
         left: &[STEM],
         right: &[Item::Atom(KIND)],
     },
-    Sentence {
+    Given {
         node: CHILD,
         left: &[ENDING],
         right: &[Item::Atom(ER)],
     },
-    Sentence {
+    Given {
         node: CHILD,
         left: &[MANY, OLD],
         right: &[Item::Node(Quoting::Quoted, LAMP)],
     },
-    Sentence {
+    Given {
         node: ECHO,
         left: &[],
         right: &[],
     },
-    Sentence {
+    Given {
         node: ECHO,
         left: &[A],
         right: &[Item::Atom(A), OPEN, CLOSE],
     },
-    Sentence {
+    Given {
         node: ECHO,
         left: &[B],
         right: &[Item::Atom(B), OPEN, CLOSE],
     },
-    Sentence {
+    Given {
         node: TWICE,
         left: &[],
         right: &[Item::Node(Quoting::Quoted, ECHO)],
     },
-    Sentence {
+    Given {
         node: LOOP,
         left: &[],
         right: &[Item::Node(Quoting::Plain, LOOP)],
     },
-    Sentence {
+    Given {
         node: GROW,
         left: &[],
         right: &[OPEN, Item::Atom(X), CLOSE],
     },
-    Sentence {
+    Given {
         node: RELAY,
         left: &[],
         right: &[QUOTED_OPEN, Item::Atom(T), CLOSE],
     },
-    Sentence {
+    Given {
         node: HERE,
         left: &[S],
         right: &[Item::Open(Quoting::Plain, Some(RELAY)), CLOSE],
     },
-    Sentence {
+    Given {
         node: HERE,
         left: &[T],
         right: &[
@@ -190,12 +184,12 @@ pub const THEORY: &[Sentence; 21] = &[
             CLOSE,
         ],
     },
-    Sentence {
+    Given {
         node: THERE,
         left: &[U],
         right: &[Item::Open(Quoting::Plain, Some(RELAY)), CLOSE],
     },
-    Sentence {
+    Given {
         node: THERE,
         left: &[T],
         right: &[Item::Atom(DONE)],
@@ -203,18 +197,11 @@ pub const THEORY: &[Sentence; 21] = &[
 ];
 
 /// Child: <many> == "<stem>" er.
-pub const CHANGE: &[Sentence; 1] = &[Sentence {
+pub const CHANGE: &[Given<'static>; 1] = &[Given {
     node: CHILD,
     left: &[MANY],
     right: &[QUOTED_OPEN, Item::Atom(STEM), CLOSE, Item::Atom(ER)],
 }];
-
-pub(crate) fn add_all<K: Keeper>(keeper: &mut K, sentences: &[Sentence]) -> Result<(), Refusal> {
-    for s in sentences {
-        keeper.add(s.node, s.left, s.right)?;
-    }
-    Ok(())
-}
 
 pub struct Asked {
     pub node: Node,

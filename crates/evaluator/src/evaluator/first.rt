@@ -5,34 +5,23 @@ ghost use Rattle.evaluator.specs.Holds.{First};
 
 use path::Path;
 use sentences::Question;
-use terms::limits::{ATOMS, NODES};
 use terms::{Atom, Node};
 
 /// Whether the numbers of all atoms are in range.
 fn in_range(path: &[Atom]) -> bool
     ensures { result ≡ every atom_in_range path.now }
 {
-    for a in path {
-        if a.0 >= ATOMS {
-            return false;
-        }
-    }
-    true
+    path.iter().all(|atom| atom.is_in_range())
 }
 
 /// A question that is its own context, if its numbers are in range and it has no more than 32 atoms.
 pub fn first_question(node: Node, path: &[Atom]) -> Option<Question>
     ensures { First result node path.now }
 {
-    if node.0 >= NODES {
-        return None;
-    }
-    if !in_range(path) {
+    if !node.is_in_range() || !in_range(path) {
         return None;
     }
     let mut kept = Path::new();
-    if !kept.extend(path) {
-        return None;
-    }
+    kept.extend(path).ok()?;
     Some(Question::first(node, kept))
 }

@@ -24,13 +24,7 @@ impl<S> Evaluator<S> {
     pub fn into_parts(self) -> (S, Machine)
         ensures { result.0 ≡ self.store }
     {
-        let Evaluator {
-            store,
-            machine,
-            question: _,
-            granted: _,
-            steps: _,
-        } = self;
+        let Evaluator { store, machine, .. } = self;
         (store, machine)
     }
 
@@ -38,14 +32,7 @@ impl<S> Evaluator<S> {
     pub fn into_store(self) -> S
         ensures { result ≡ self.store }
     {
-        let Evaluator {
-            store,
-            machine,
-            question: _,
-            granted: _,
-            steps: _,
-        } = self;
-        drop(machine);
+        let (store, _machine) = self.into_parts();
         store
     }
 }

@@ -15,8 +15,8 @@ impl<S: Store> Evaluator<S> {
         ensures store { self.new.store ≡ self.old.store }
         ensures came { (before : List Act) → CameBy S.Store.means before self.old → CameBy S.Store.means (before ++ acts_of calls.now) self.new }
     {
-        for c in calls {
-            let _ = self.call(*c);
+        for call in calls {
+            let _ = self.call(*call);
         }
     }
 }
@@ -31,15 +31,11 @@ pub fn evaluate<S: Store>(machine: Machine, store: S, calls: &[Call]) -> Evaluat
 }
 
 /// After the same calls two evaluators over stores of the same map show the same.
-pub fn answered_alike<S: Store, R: Store>(one: &Evaluator<S>, other: &Evaluator<R>) -> u8
+pub fn answered_alike<S: Store, R: Store>(one: &Evaluator<S>, other: &Evaluator<R>)
     ensures { ShowsAlike S.Store.means R.Store.means one.now other.now }
-{
-    0
-}
+{}
 
 /// Granting m steps and then n is granting m + n.
-pub fn grants_add_up() -> u8
+pub fn grants_add_up()
     ensures { GrantsAddUp }
-{
-    0
-}
+{}

@@ -20,8 +20,7 @@ impl<S> Evaluator<S> {
             return Outcome::Idle;
         };
         match self.machine.phase() {
-            Phase::Asks => Outcome::Unfinished,
-            Phase::Works => Outcome::Unfinished,
+            Phase::Asks | Phase::Works => Outcome::Unfinished,
             Phase::Has => Outcome::Value,
             Phase::Stops(stop) => Outcome::Stopped(stop),
         }
@@ -32,10 +31,7 @@ impl<S> Evaluator<S> {
         ensures shown { question_lent result ≡ question_in (holding_of self.now) }
         ensures right { ShownOverAnyStore self.now }
     {
-        match &self.question {
-            Some(question) => Some(question),
-            None => None,
-        }
+        self.question.as_ref()
     }
 
     /// The steps taken for the question held.
@@ -65,11 +61,6 @@ impl<S> Evaluator<S> {
         ensures shown { result ≡ atom_of (shown_by self.now) place }
         ensures right { ShownOverAnyStore self.now }
     {
-        let value = self.value();
-        if place < value.len() {
-            Some(value[place])
-        } else {
-            None
-        }
+        self.value().get(place).copied()
     }
 }

@@ -30,10 +30,7 @@ impl<S: Store> Evaluator<S> {
     pub fn work(&mut self, number: u32) -> Result<(), Refusal>
         ensures { Called S.Store.means self.old (works number) (numbered result) self.new }
     {
-        match self.work_counting(number) {
-            Ok(_) => Ok(()),
-            Err(refusal) => Err(refusal),
-        }
+        self.work_counting(number).map(|_| ())
     }
 
     /// A call that is given as a value.

@@ -16,9 +16,6 @@ found-requires g c =
 pub loop-machine-init : goal.loop-machine-init
 loop-machine-init g c = (λ v. (v, refl, not_yet), omega (arith, work_left_most c.found.new.self))
 
-pub turn-requires : goal.turn-requires
-turn-requires g c = record { works = c.in-Works.is }
-
 pub loop-machine-preserved : goal.loop-machine-preserved
 loop-machine-preserved g c =
     let M = (g.S.Store.means c.args.store.now).map in

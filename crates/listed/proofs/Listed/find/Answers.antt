@@ -7,10 +7,6 @@ use Rattle.listed.proofs.Listed.find.Goals as goal
 pub loop-i-init : goal.loop-i-init
 loop-i-init c = (c.mixed_with-hash.ensures, best_none (held_in c.args.self.now) c.args.node c.args.path.now [] c.better-best.result refl c.better-best.ensures)
 
-pub better-best-requires-in-loop-i : goal.better-best-requires-in-loop-i
-better-best-requires-in-loop-i c =
-    mixed_more (mix 0 c.args.node.0) c.loop-i.hash c.mixed_with-hash-in-loop-i.result c.args.path.now c.loop-i.i c.loop-i-test.true c.loop-i.invariant.0 c.mixed_with-hash-in-loop-i.ensures
-
 pub loop-i-preserved : goal.loop-i-preserved
 loop-i-preserved c =
     let p = c.args.path.now in

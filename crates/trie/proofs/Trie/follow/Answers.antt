@@ -1,5 +1,4 @@
-use Rattle.std.proofs.Common.{◌++◌, map, take, sym, ap, ◌∙◌, arith}
-use Rattle.std.proofs.lemmas.List.{take_all}
+use Rattle.std.proofs.Common.{◌++◌, map, take, ap, ◌∙◌, arith}
 use Rattle.trie.specs.Held.{place_in}
 use Rattle.trie.specs.Ways.{num}
 use Rattle.trie.proofs.Steps.{push_more}
@@ -15,14 +14,3 @@ loop-atom-preserved c =
       m.low,
       m.within,
     )
-
-pub returns : goal.returns
-returns c =
-    let v = c.loop-atom.invariant in
-    let p = c.args.left.now in
-    record {
-      grows = record { same = v.0.same; more = omega arith; room = v.0.room };
-      leads = λ w e. ap (λ x. place_in c.loop-atom.self (w ++ map num x)) (sym (take_all c.loop-atom.atom-index p c.loop-atom-test.false)) ∙ v.1 w e;
-      low = v.2;
-      within = v.3;
-    }

@@ -1,28 +1,11 @@
-use Rattle.std.proofs.Common.{map, None, length, vec_items, sym, refl, ap, ◌∙◌, arith, rules}
+use Rattle.std.proofs.Common.{map, None, vec_items, sym, refl, ap, ◌∙◌, arith}
 use lib.ListN.{length-map}
 use Rattle.std.proofs.lemmas.List.{map_push}
-use Rattle.chains.specs.Entries.{Entries}
-use Rattle.chains.specs.Held.{buckets_in}
-use Rattle.chains.proofs.Pushes.{pushed}
 use Rattle.trie.specs.declared.Place.{Place}
 use Rattle.trie.specs.Held.{edges_in, marks_in}
-use Rattle.trie.specs.Ways.{edge, edge_of, mark_of_lem, bucket_of_lem}
-use Rattle.trie.proofs.Grows.{made_parts, made_leads, leads_old, child_edge}
+use Rattle.trie.specs.Ways.{edge, edge_of, mark_of_lem}
+use Rattle.trie.proofs.Grows.{made_leads, leads_old, child_edge}
 use Rattle.trie.proofs.Trie.make_child.Goals as goal
-
-pub invariant_of-self : goal.invariant_of-self
-invariant_of-self c =
-    let s = c.args.self.now in
-    let ps = vec_items s.places in
-    let n = ap length s.chained ∙ length-map (edges_in s) bucket_of_lem in
-    let m = length-map ps edge_of in
-    let place : Place = record { edge = edge c.args.parent c.args.label; mark = None } in
-    let k = c.bucket_of.ensures.small in
-    let e = (pushed s.chains c.push.new.self c.bucket_of.result c.push.result c.push.ensures.gives c.push.ensures.entries (omega arith) (omega arith)).1 in
-    let w = ap (λ (v : Entries). v.width) e in
-    let r = ap (λ (v : Entries). v.room) e in
-    let p = made_parts (edges_in s) _ (buckets_in s.chains) _ c.args.parent c.args.label c.bucket_of.result (ap (map edge_of) c.push_reserved.ensures.items ∙ map_push edge_of ps place) (ap buckets_in e) c.bucket_of.ensures.is s.chained s.rising c.requires.there in
-    record { places_room = search rules; chains_room = omega arith; width = omega arith; chained = p.0; rising = p.1 }
 
 pub returns-in-Some : goal.returns-in-Some
 returns-in-Some c =

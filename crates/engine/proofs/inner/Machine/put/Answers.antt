@@ -5,8 +5,8 @@ use Rattle.engine.proofs.Working.{at_work, some_is_open, took_atom, took_none}
 use Rattle.terms.specs.declared.items.Item.TheVariants as item
 use Rattle.engine.proofs.inner.Machine.put.Goals as goal
 
-pub returns-in-None : goal.returns-in-None
-returns-in-None c =
+pub returns-in-Ok : goal.returns-in-Ok
+returns-in-Ok c =
     let m = c.args.self.now in
     let g = c.gather.new.self in
     let z = c.move_on.new.self in
@@ -14,11 +14,11 @@ returns-in-None c =
     at_work z (c.move_on.ensures.phase ∙ (c.gather.ensures.phase ∙ c.requires.works))
     ∙ (ap (λ t. working t (built_in z)) (c.move_on.ensures.table ∙ ap top_onward e)
     ∙ (ap (working (top_onward (positions_in m))) c.move_on.ensures.built
-    ∙ (took_atom (positions_in m) (some_is_open m c.requires.works) (built_in m) (built_in g) c.args.a c.in-None.ensures.gathered
-    ∙ sym (ap (took (Some (item.Atom c.args.a))) (at_work m c.requires.works)))))
+    ∙ (took_atom (positions_in m) (some_is_open m c.requires.works) (built_in m) (built_in g) c.args.atom c.in-Ok.ensures.gathered
+    ∙ sym (ap (took (Some (item.Atom c.args.atom))) (at_work m c.requires.works)))))
 
-pub returns-in-Some : goal.returns-in-Some
-returns-in-Some c =
+pub returns-in-Err : goal.returns-in-Err
+returns-in-Err c =
     let m = c.args.self.now in
-    took_none (positions_in m) (some_is_open m c.requires.works) (built_in m) (built_in c.gather.new.self) c.args.a c.in-Some.stop c.in-Some.ensures.gathered
-    ∙ sym (ap (took (Some (item.Atom c.args.a))) (at_work m c.requires.works))
+    took_none (positions_in m) (some_is_open m c.requires.works) (built_in m) (built_in c.gather.new.self) c.args.atom c.in-Err.stop c.in-Err.ensures.gathered
+    ∙ sym (ap (took (Some (item.Atom c.args.atom))) (at_work m c.requires.works))

@@ -1,4 +1,4 @@
-use Rattle.std.proofs.Common.{◌≡◌, sym, refl, ap, ◌∙◌, subst, arith}
+use Rattle.std.proofs.Common.{◌≡◌, ◌≤◌, sym, refl, ap, ◌∙◌, subst, arith}
 use Rattle.machine.specs.Steps.{next, after, step_of, steps_taken}
 use Rattle.machine.specs.Bounds.{not_yet}
 use Rattle.engine.specs.States.{progress_of}
@@ -9,10 +9,7 @@ use Rattle.engine.proofs.inner.Machine.work.Goals as goal
 
 pub loop-steps-init : goal.loop-steps-init
 unfolding after steps_taken
-loop-steps-init g c = (omega arith, omega arith, λ b. (b, refl, refl, not_yet))
-
-pub step-requests-requires : goal.step-requests-requires
-step-requests-requires g c = record { asks = c.in-Asks.is }
+loop-steps-init g c = (omega arith, λ b. (b, refl, refl, not_yet))
 
 pub loop-steps-preserved : goal.loop-steps-preserved
 loop-steps-preserved g c =
@@ -22,10 +19,9 @@ loop-steps-preserved g c =
     let z = c.step-requests.new.machine in
     let p = state_in M m in
     let k = c.loop-steps.steps in (
-      omega arith,
-      omega (arith, c.loop-steps.invariant.1, c.step-requests.ensures.bounded),
+      omega (arith, c.loop-steps.invariant.0, c.step-requests.ensures.bounded),
       λ b.
-          let i = c.loop-steps.invariant.2 b in
+          let i = c.loop-steps.invariant.1 b in
           let s = c.step-requests.ensures.steps i.0.insides in (
             record { rests = c.step-requests.ensures.rests; insides = s.insides },
             s.state ∙ (ap (next M) i.1 ∙ sym (after_next M k p)),
@@ -39,13 +35,14 @@ returns-in_default g c =
     let M = (g.S.Store.means c.args.store.now).map in
     let m = c.loop-steps.self in
     let p = state_in M c.args.self.now in
+    let k : c.loop-steps.steps ≤ c.args.granted = omega arith in
     record {
-      most = c.loop-steps.invariant.0;
-      bounded = c.loop-steps.invariant.1;
+      most = k;
+      bounded = c.loop-steps.invariant.0;
       went = λ b.
-          let i = c.loop-steps.invariant.2 b in
+          let i = c.loop-steps.invariant.1 b in
           let e = ended M m i.0.rests c.in_default.not-Asks in
-          let o = over M c.loop-steps.steps c.args.granted p c.loop-steps.invariant.0 i.2
+          let o = over M c.loop-steps.steps c.args.granted p k i.2
           (subst (λ x. next M x ≡ x) i.1 e.0) (sym (ap step_of i.1) ∙ e.1) in
           record { between = i.0; state = i.1 ∙ o.same; steps = o.none; asked = i.3 };
     }

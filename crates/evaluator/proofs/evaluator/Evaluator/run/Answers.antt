@@ -1,5 +1,4 @@
 use Rattle.std.proofs.Common.{[], ◌++◌, take, ◌∙◌, subst}
-use Rattle.std.proofs.lemmas.List.{take_all}
 use Rattle.evaluator.specs.declared.answers.Call.{Call}
 use Rattle.evaluator.specs.declared.answers.Call.TheVariants as call
 use Rattle.evaluator.specs.Calls.{acts_of}
@@ -11,22 +10,12 @@ use Rattle.evaluator.proofs.evaluator.Evaluator.run.Goals as goal
 abbrev none : Call
 none = call.Begin (record { 0 = 0 }) (record { ref_ptr = (0, 0); now = [] })
 
-pub loop-c-preserved : goal.loop-c-preserved
-loop-c-preserved g c =
+pub loop-call-preserved : goal.loop-call-preserved
+loop-call-preserved g c =
     let cs = c.args.calls.now in
-    let i = c.loop-c.c-index in (
-      c.call.ensures.store_stays ∙ c.loop-c.invariant.0,
+    let i = c.loop-call.call-index in (
+      c.call.ensures.store_stays ∙ c.loop-call.invariant.0,
       λ before a.
-          subst (λ l. CameBy g.S.Store.means l c.call.new.self) (one_more_call before cs i none c.loop-c-test.true)
-          (c.call.ensures.came (before ++ acts_of (take i cs)) (c.loop-c.invariant.1 before a)),
+          subst (λ l. CameBy g.S.Store.means l c.call.new.self) (one_more_call before cs i none c.loop-call-test.true)
+          (c.call.ensures.came (before ++ acts_of (take i cs)) (c.loop-call.invariant.1 before a)),
     )
-
-pub returns : goal.returns
-returns g c =
-    let cs = c.args.calls.now in
-    record {
-      store = c.loop-c.invariant.0;
-      came = λ before a.
-          subst (λ l. CameBy g.S.Store.means (before ++ acts_of l) c.loop-c.self) (take_all c.loop-c.c-index cs c.loop-c-test.false)
-          (c.loop-c.invariant.1 before a);
-    }

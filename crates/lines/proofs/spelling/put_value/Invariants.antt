@@ -1,9 +1,0 @@
-use Rattle.std.proofs.Common.{take}
-use Rattle.names.specs.Tables.{atoms_in}
-use Rattle.lines.specs.Bytes.{value_bytes}
-use Rattle.lines.specs.Names.{names_of}
-use Rattle.lines.specs.Pages.{Spelled}
-use Rattle.lines.proofs.spelling.put_value.Given as goal
-
-abbrev pub invariant-loop-a : goal.invariant-loop-a
-invariant-loop-a l = Spelled l.initial.page l.initial.at (value_bytes (names_of (atoms_in l.names) (take l.a-index l.atoms))) l.at l.page

@@ -1,6 +1,0 @@
-use Rattle.std.proofs.Common.{sym}
-use Rattle.words.proofs.Counting.{sign_counted}
-use Rattle.words.proofs.tally.count.Goals as goal
-
-pub returns-in_default : goal.returns-in_default
-returns-in_default c = sym (sign_counted c.args.tally c.args.word c.in_default.not-Node c.in_default.not-Atom c.in_default.not-End)

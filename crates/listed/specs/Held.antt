@@ -3,6 +3,7 @@ use Rattle.std.specs.Prelude.{List}
 use Rattle.terms.specs.Maps.{Meaning}
 use Rattle.stores.specs.Sentences.{Sentence}
 use Rattle.kept.specs.declared.Room.{Room}
+use Rattle.kept.specs.Contents.{Contents}
 use Rattle.kept.specs.Held as kept
 use Rattle.kept.specs.Meanings.{meaning_of}
 use Rattle.listed.specs.declared.Listed.{Listed}
@@ -15,3 +16,7 @@ room_in t = kept.room_in t.kept
 
 abbrev pub listed_meaning : Listed → Meaning
 listed_meaning t = meaning_of (held_in t) t.fit
+
+-- the sentences, and for how much there is memory
+abbrev pub contents_in : Listed → Contents
+contents_in t = t.kept

@@ -8,7 +8,8 @@ ghost use Rattle.stores.specs.Refusals.{fits, refusal, answer, kept_after};
 ghost use Rattle.kept.specs.Held.{limits_of, smaller, passes};
 ghost use Rattle.kept.specs.Firsts.{first_by};
 ghost use Rattle.listed.specs.Hash.{mix, hash_of_lem, bucket};
-ghost use Rattle.listed.specs.Held.{held_in, room_in};
+ghost use Rattle.kept.specs.Contents.{with_sentences};
+ghost use Rattle.listed.specs.Held.{held_in, room_in, contents_in};
 
 use super::Listed;
 use chains::Chains;
@@ -34,7 +35,7 @@ fn hash_of(node: Node, left: &[Atom]) -> u32
 impl Listed {
     /// No sentence, with memory for so many, and a bucket for each number that the mask leaves.
     pub fn new(heap: Global, room: Room, mask: u16) -> Result<Listed, AllocError>
-        ensures { IfOk result (λ s. (held_in s ≡ []) × (room_in s ≡ room)) }
+        ensures { IfOk result (λ s. contents_in s ≡ record { room = room; sentences = [] }) }
     {
         let kept = Kept::new(heap, room)?;
         let chains = Chains::new(heap, mask as usize + 1, room.sentences)?;
@@ -42,8 +43,7 @@ impl Listed {
     }
 
     pub fn clear(&mut self)
-        ensures held { held_in self.new ≡ [] }
-        ensures room { room_in self.new ≡ room_in self.old }
+        ensures { contents_in self.new ≡ with_sentences (contents_in self.old) [] }
     {
         self.kept.clear();
         self.chains.clear();
@@ -110,8 +110,7 @@ impl Listed {
         requires fit { fits (sentence node left.now right.now) ≡ true }
         requires fresh { is_some (map_of (held_in self.old) node left.now) ≡ false }
         ensures gives { result ≡ (if passes (smaller most (room_in self.old)) (held_in self.old) (length left.now) (length right.now) then Err Refused.Full else Ok tt) }
-        ensures held { held_in self.new ≡ (if is_ok result then held_in self.old ++ sentence node left.now right.now ∷ [] else held_in self.old) }
-        ensures room { room_in self.new ≡ room_in self.old }
+        ensures keeps { contents_in self.new ≡ with_sentences (contents_in self.old) (if is_ok result then held_in self.old ++ sentence node left.now right.now ∷ [] else held_in self.old) }
     {
         let bucket = self.bucket_of(hash_of(node, left));
         self.kept.put(most, node, left, right)?;
@@ -127,8 +126,7 @@ impl Listed {
         right: &[Item],
     ) -> Result<(), Refusal>
         ensures gives { result ≡ answer (refusal (limits_of (smaller most (room_in self.old))) (held_in self.old) (sentence node left.now right.now)) }
-        ensures held { held_in self.new ≡ kept_after (refusal (limits_of (smaller most (room_in self.old))) (held_in self.old) (sentence node left.now right.now)) (held_in self.old) (sentence node left.now right.now) }
-        ensures room { room_in self.new ≡ room_in self.old }
+        ensures keeps { contents_in self.new ≡ with_sentences (contents_in self.old) (kept_after (refusal (limits_of (smaller most (room_in self.old))) (held_in self.old) (sentence node left.now right.now)) (held_in self.old) (sentence node left.now right.now)) }
     {
         check_fitness(node, left, right)?;
         if self.has(node, left) {

@@ -16,6 +16,7 @@ mod refusals;
 
 pub use refusals::Refusal;
 
+// Kept: a node and a left path stay two parameters, since callers have them apart: a struct would be made and taken apart at each call.
 pub trait Store {
     /// The map, and that every sentence in it is within the limits.
     ghost means: { Self → Meaning };

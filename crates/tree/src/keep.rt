@@ -53,6 +53,7 @@ impl PrefixTree {
     }
 
     // Keeps one sentence more, unless one of the limits given would be passed.
+    // Kept beside the list's: what finds a pair and what is added to it differ, and a trait over both is longer than these four lines.
     fn put(&mut self, most: Room, node: Node, left: &[Atom], right: &[Item]) -> Result<(), Refusal>
         requires fit { fits (sentence node left.now right.now) ≡ true }
         requires fresh { is_some (map_of (kept_in self.old) node left.now) ≡ false }

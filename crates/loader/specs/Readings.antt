@@ -1,5 +1,6 @@
 -- What the readers of terms come to.
-use Rattle.std.specs.Prelude.{◌≡◌, ℕ, suc, ◌+◌, ◌≤◌, Bool, true, false, List, ◌++◌, length, Some, None, Ok, Err, Option, Result}
+use Rattle.std.specs.Prelude.{◌≡◌, ℕ, suc, ◌+◌, ◌≤◌, Bool, true, false, List, ◌++◌, length, Some, None, Ok, Err, Option, Result, vec_len, vec_capacity}
+use Rattle.std.specs.Global.{Vec}
 use Rattle.terms.specs.declared.items.Node.{Node}
 use Rattle.terms.specs.declared.items.Item.{Item}
 use Rattle.terms.specs.declared.items.Quoting.{Quoting}
@@ -17,7 +18,7 @@ use Rattle.words.specs.declared.faults.WordRefusal.{WordRefusal}
 use Rattle.lookahead.specs.declared.word.Word.{Word}
 use Rattle.lookahead.specs.declared.word.Word.TheVariants as w
 use Rattle.lookahead.specs.declared.parser.Parser.{Parser}
-use Rattle.lookahead.specs.Ahead.{names_of, rest, final, size, gives}
+use Rattle.lookahead.specs.Ahead.{Grown, names_of, rest, final, size, gives}
 use Rattle.loader.specs.declared.ends.NextEquation.{NextEquation}
 
 abbrev pub is_less_lem : Result Word WordRefusal → Bool
@@ -202,6 +203,16 @@ Stops r (Err e) k = Unit {0}
 -- The same of a parser and the names, before and after.
 abbrev pub words_left : NameTables → Parser → ℕ
 words_left n p = size (rest (names_of n) p)
+
+-- there is room for an item for each word that is left, and for so many more
+abbrev pub HasRoom : ℕ → NameTables → Parser → Vec Item → Type 0
+HasRoom more n p out = more + (vec_len out + words_left n p) ≤ vec_capacity out
+
+-- Names are only appended, the items keep their memory, and each item has taken a word, but for so many more.
+pub record TakesWords (more : ℕ) (n : NameTables) (p : Parser) (out : Vec Item) (read : Bool) (n' : NameTables) (p' : Parser) (out' : Vec Item) : Type 0 where
+  pub grows : Grown (names_of n) (names_of n')
+  pub capacity : vec_capacity out' ≡ vec_capacity out
+  pub each : read ≡ true → vec_len out' + words_left n' p' ≤ more + (vec_len out + words_left n p)
 
 abbrev pub ReadsTerms : ℕ → Phase → NameTables → Parser → List Item → Result (Unit {0}) GrammarFault → NameTables → Parser → List Item → Type 0
 ReadsTerms left ph n p out r n' p' out' =

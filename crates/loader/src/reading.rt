@@ -7,7 +7,7 @@ ghost use Rattle.grammar.specs.Parsing.{ready, noded, coloned, quoting, quoted_n
 ghost use Rattle.faults.specs.declared.kinds.GrammarFault.TheVariants as fault;
 ghost use Rattle.lookahead.specs.declared.word.Word.TheVariants as w;
 ghost use Rattle.lookahead.specs.Ahead.{Grown, names_of};
-ghost use Rattle.loader.specs.Readings.{is_less_lem, starts, is_next, words_left, ReadsTerms, ReadsPath, ReadsEnd, ReadsSide, Stops};
+ghost use Rattle.loader.specs.Readings.{is_less_lem, starts, is_next, words_left, HasRoom, TakesWords, ReadsTerms, ReadsPath, ReadsEnd, ReadsSide, Stops};
 
 use crate::ends::NextEquation;
 use faults::{GrammarFault, GrammarRefusal, NameFault};
@@ -49,15 +49,13 @@ fn path(
     quoting: Quoting,
     node: Option<Node>,
 ) -> Result<(), GrammarFault>
-    requires room { vec_len items.old + words_left names.old p.old ≤ vec_capacity items.old }
+    requires room { HasRoom 0 names.old p.old items.old }
     requires starts { is_less_lem p.old.word ≡ true }
     requires depth { left ≤ 4 }
     requires named { item_in_range (item.Open «quoting» «node») ≡ true }
     ensures goes { ReadsPath left «quoting» «node» names.old p.old items.old.items result names.new p.new items.new.items }
-    ensures grows { Grown (names_of names.old) (names_of names.new) }
     ensures less { is_ok result ≡ true → words_left names.new p.new < words_left names.old p.old }
-    ensures capacity { vec_capacity items.new ≡ vec_capacity items.old }
-    ensures each { is_ok result ≡ true → vec_len items.new + words_left names.new p.new ≤ vec_len items.old + words_left names.old p.old }
+    ensures takes { TakesWords 0 names.old p.old items.old (is_ok result) names.new p.new items.new }
 {
     if left == 0 {
         return Err(GrammarFault::Own(GrammarRefusal::TooDeep, p.place));
@@ -95,14 +93,12 @@ fn terms(
     items: &mut Vec<Item>,
     left: usize,
 ) -> Result<(), GrammarFault>
-    requires room { vec_len items.old + words_left names.old p.old ≤ vec_capacity items.old }
+    requires room { HasRoom 0 names.old p.old items.old }
     requires inside { left ≤ 3 }
     ensures goes { ReadsTerms left ready names.old p.old items.old.items result names.new p.new items.new.items }
-    ensures grows { Grown (names_of names.old) (names_of names.new) }
     ensures stops { is_ok result ≡ true → starts p.new.word ≡ false }
     ensures less { is_ok result ≡ true → words_left names.new p.new ≤ words_left names.old p.old }
-    ensures capacity { vec_capacity items.new ≡ vec_capacity items.old }
-    ensures each { is_ok result ≡ true → vec_len items.new + words_left names.new p.new ≤ vec_len items.old + words_left names.old p.old }
+    ensures takes { TakesWords 0 names.old p.old items.old (is_ok result) names.new p.new items.new }
 {
     while starts_term(p.word) {
         term(p, names, items, left)?;
@@ -117,14 +113,12 @@ fn term(
     items: &mut Vec<Item>,
     left: usize,
 ) -> Result<(), GrammarFault>
-    requires room { vec_len items.old + words_left names.old p.old ≤ vec_capacity items.old }
+    requires room { HasRoom 0 names.old p.old items.old }
     requires inside { left ≤ 3 }
     requires starts { starts p.old.word ≡ true }
     ensures goes { ReadsTerms left ready names.old p.old items.old.items result names.new p.new items.new.items }
-    ensures grows { Grown (names_of names.old) (names_of names.new) }
     ensures less { is_ok result ≡ true → words_left names.new p.new < words_left names.old p.old }
-    ensures capacity { vec_capacity items.new ≡ vec_capacity items.old }
-    ensures each { is_ok result ≡ true → vec_len items.new + words_left names.new p.new ≤ vec_len items.old + words_left names.old p.old }
+    ensures takes { TakesWords 0 names.old p.old items.old (is_ok result) names.new p.new items.new }
 {
     match p.word {
         Ok(Word::Less) => path(p, names, items, left, Quoting::Plain, None),
@@ -140,15 +134,13 @@ fn unopened(
     items: &mut Vec<Item>,
     left: usize,
 ) -> Result<(), GrammarFault>
-    requires room { vec_len items.old + words_left names.old p.old ≤ vec_capacity items.old }
+    requires room { HasRoom 0 names.old p.old items.old }
     requires starts { starts p.old.word ≡ true }
     requires unopened { p.old.word ≡ Ok w.Less → ⊥ }
     requires depth { left ≤ 4 }
     ensures goes { ReadsTerms left ready names.old p.old items.old.items result names.new p.new items.new.items }
-    ensures grows { Grown (names_of names.old) (names_of names.new) }
     ensures less { is_ok result ≡ true → words_left names.new p.new < words_left names.old p.old }
-    ensures capacity { vec_capacity items.new ≡ vec_capacity items.old }
-    ensures each { is_ok result ≡ true → vec_len items.new + words_left names.new p.new ≤ vec_len items.old + words_left names.old p.old }
+    ensures takes { TakesWords 0 names.old p.old items.old (is_ok result) names.new p.new items.new }
 {
     match p.word {
         Ok(Word::Atom(a)) => {
@@ -176,14 +168,12 @@ fn after_node(
     left: usize,
     node: Node,
 ) -> Result<(), GrammarFault>
-    requires room { vec_len items.old + words_left names.old p.old < vec_capacity items.old }
+    requires room { HasRoom 1 names.old p.old items.old }
     requires depth { left ≤ 4 }
     requires named { node_in_range «node» ≡ true }
     ensures goes { ReadsTerms left (noded «node») names.old p.old items.old.items result names.new p.new items.new.items }
-    ensures grows { Grown (names_of names.old) (names_of names.new) }
     ensures less { is_ok result ≡ true → words_left names.new p.new ≤ words_left names.old p.old }
-    ensures capacity { vec_capacity items.new ≡ vec_capacity items.old }
-    ensures each { is_ok result ≡ true → vec_len items.new + words_left names.new p.new ≤ 1 + vec_len items.old + words_left names.old p.old }
+    ensures takes { TakesWords 1 names.old p.old items.old (is_ok result) names.new p.new items.new }
 {
     match p.word {
         Ok(Word::Colon) => {
@@ -204,13 +194,11 @@ fn after_quote(
     items: &mut Vec<Item>,
     left: usize,
 ) -> Result<(), GrammarFault>
-    requires room { vec_len items.old + words_left names.old p.old ≤ vec_capacity items.old }
+    requires room { HasRoom 0 names.old p.old items.old }
     requires depth { left ≤ 4 }
     ensures goes { ReadsTerms left quoting names.old p.old items.old.items result names.new p.new items.new.items }
-    ensures grows { Grown (names_of names.old) (names_of names.new) }
     ensures less { is_ok result ≡ true → words_left names.new p.new ≤ words_left names.old p.old }
-    ensures capacity { vec_capacity items.new ≡ vec_capacity items.old }
-    ensures each { is_ok result ≡ true → vec_len items.new + words_left names.new p.new ≤ vec_len items.old + words_left names.old p.old }
+    ensures takes { TakesWords 0 names.old p.old items.old (is_ok result) names.new p.new items.new }
 {
     match p.word {
         Ok(Word::Less) => path(p, names, items, left, Quoting::Quoted, None),
@@ -231,14 +219,12 @@ fn after_quoted_node(
     left: usize,
     node: Node,
 ) -> Result<(), GrammarFault>
-    requires room { vec_len items.old + words_left names.old p.old < vec_capacity items.old }
+    requires room { HasRoom 1 names.old p.old items.old }
     requires depth { left ≤ 4 }
     requires named { node_in_range «node» ≡ true }
     ensures goes { ReadsTerms left (quoted_node «node») names.old p.old items.old.items result names.new p.new items.new.items }
-    ensures grows { Grown (names_of names.old) (names_of names.new) }
     ensures less { is_ok result ≡ true → words_left names.new p.new ≤ words_left names.old p.old }
-    ensures capacity { vec_capacity items.new ≡ vec_capacity items.old }
-    ensures each { is_ok result ≡ true → vec_len items.new + words_left names.new p.new ≤ vec_len items.old + words_left names.old p.old }
+    ensures takes { TakesWords 0 names.old p.old items.old (is_ok result) names.new p.new items.new }
 {
     match p.word {
         Ok(Word::Colon) => {
@@ -264,14 +250,12 @@ fn named_path(
     quoting: Quoting,
     node: Node,
 ) -> Result<(), GrammarFault>
-    requires room { vec_len items.old + words_left names.old p.old ≤ vec_capacity items.old }
+    requires room { HasRoom 0 names.old p.old items.old }
     requires depth { left ≤ 4 }
     requires named { node_in_range «node» ≡ true }
     ensures goes { ReadsTerms left (coloned «quoting» «node») names.old p.old items.old.items result names.new p.new items.new.items }
-    ensures grows { Grown (names_of names.old) (names_of names.new) }
     ensures less { is_ok result ≡ true → words_left names.new p.new ≤ words_left names.old p.old }
-    ensures capacity { vec_capacity items.new ≡ vec_capacity items.old }
-    ensures each { is_ok result ≡ true → vec_len items.new + words_left names.new p.new ≤ vec_len items.old + words_left names.old p.old }
+    ensures takes { TakesWords 0 names.old p.old items.old (is_ok result) names.new p.new items.new }
 {
     match p.word {
         Ok(Word::Less) => path(p, names, items, left, quoting, Some(node)),
@@ -293,13 +277,11 @@ pub(crate) fn right_side(
     items: &mut Vec<Item>,
     round: bool,
 ) -> Result<Option<NextEquation>, GrammarFault>
-    requires room { vec_len items.old + words_left names.old p.old ≤ vec_capacity items.old }
+    requires room { HasRoom 0 names.old p.old items.old }
     ensures goes { ReadsSide round names.old p.old items.old.items result names.new p.new items.new.items }
-    ensures grows { Grown (names_of names.old) (names_of names.new) }
     ensures stops { Stops round result p.new.word }
     ensures less { is_ok result ≡ true → words_left names.new p.new ≤ words_left names.old p.old }
-    ensures capacity { vec_capacity items.new ≡ vec_capacity items.old }
-    ensures each { is_ok result ≡ true → vec_len items.new + words_left names.new p.new ≤ vec_len items.old + words_left names.old p.old }
+    ensures takes { TakesWords 0 names.old p.old items.old (is_ok result) names.new p.new items.new }
 {
     while starts_term(p.word) {
         match p.word {

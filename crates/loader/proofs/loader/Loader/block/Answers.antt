@@ -5,7 +5,6 @@ use Rattle.lookahead.specs.declared.word.Word.TheVariants as w
 use Rattle.lookahead.specs.Ended.{number_in_range}
 use Rattle.lookahead.proofs.Growth
 use Rattle.loader.proofs.Runs
-use Rattle.loader.proofs.Marks
 use Rattle.loader.proofs.Sentences
 use Rattle.loader.proofs.loader.Loader.block.Goals as goal
 

@@ -3,7 +3,6 @@ use Rattle.grammar.specs.Parsing.{body}
 use Rattle.lookahead.specs.declared.word.Word.TheVariants as w
 use Rattle.lookahead.proofs.Growth
 use Rattle.loader.proofs.Runs
-use Rattle.loader.proofs.Marks
 use Rattle.loader.proofs.Sentences.{from_state, due_equation, due_round, due_bare}
 use Rattle.loader.proofs.loader.Loader.next_part.Goals as goal
 

@@ -1,5 +1,5 @@
 -- One word of a left path.
-use Rattle.std.proofs.Common.{◌≡◌, ℕ, suc, true, ltb, List, [], ◌∷◌, ◌++◌, sym, refl, ap, ◌∙◌, arith, Ok, Err, Result}
+use Rattle.std.proofs.Common.{◌≡◌, ℕ, true, ltb, List, [], ◌∷◌, ◌++◌, sym, refl, ap, ◌∙◌, arith, Ok, Err, Result}
 use Rattle.std.proofs.lemmas.Bool.{and_parts, and_from}
 use Rattle.terms.specs.declared.items.Atom.{Atom}
 use Rattle.terms.specs.Maps.{every, atom_in_range}
@@ -10,7 +10,7 @@ use Rattle.grammar.specs.Loading.{load}
 use Rattle.words.specs.declared.faults.WordRefusal.{WordRefusal}
 use Rattle.lookahead.specs.declared.word.Word.{Word}
 use Rattle.lookahead.specs.declared.word.Word.TheVariants as w
-use Rattle.lookahead.specs.Ahead.{cons, size, fault_number}
+use Rattle.lookahead.specs.Ahead.{cons, fault_number}
 use Rattle.loader.specs.Readings.{is_less_lem, is_equals_lem}
 use Rattle.loader.proofs.Runs
 

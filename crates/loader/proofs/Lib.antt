@@ -1,3 +1,4 @@
+mod Onward
 pub mod Runs
 pub mod Turns
 pub mod Sides

@@ -1,5 +1,5 @@
 -- The words between terms: those that begin and end sentences, equations and blocks.
-use Rattle.std.proofs.Common.{◌≡◌, ℕ, suc, ◌≤◌, Bool, true, false, ltb, List, [], Some, None, Option, sym, refl, ap, ◌∙◌, arith, Ok, Err, Result}
+use Rattle.std.proofs.Common.{◌≡◌, ℕ, ◌≤◌, Bool, true, false, ltb, List, [], Some, None, Option, refl, ap, ◌∙◌, arith, Ok, Err, Result}
 use Rattle.std.proofs.lemmas.Bool.{cond-true, cond-false, le-ltb}
 use Rattle.terms.specs.declared.items.Node.{Node}
 use Rattle.terms.specs.declared.items.Atom.{Atom}
@@ -14,7 +14,7 @@ use Rattle.grammar.specs.Loading.{load, checked, numbered, late_refusal, kept_or
 use Rattle.words.specs.declared.faults.WordRefusal.{WordRefusal}
 use Rattle.lookahead.specs.declared.word.Word.{Word}
 use Rattle.lookahead.specs.declared.word.Word.TheVariants as w
-use Rattle.lookahead.specs.Ahead.{cons, size, fault_number}
+use Rattle.lookahead.specs.Ahead.{cons, fault_number}
 use Rattle.loader.specs.Readings.{starts}
 use Rattle.loader.proofs.Runs
 

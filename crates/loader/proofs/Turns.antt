@@ -1,5 +1,5 @@
 -- What readers come to, put together.
-use Rattle.std.proofs.Common.{◌≡◌, ℕ, suc, ◌+◌, ◌-◌, ◌≤◌, Bool, true, List, [], ◌∷◌, ◌++◌, Some, None, Ok, Err, Option, Result, sym, refl, ap, ◌∙◌, append_assoc, append-nil, arith}
+use Rattle.std.proofs.Common.{◌≡◌, ℕ, ◌+◌, ◌-◌, ◌≤◌, Bool, true, List, [], ◌∷◌, ◌++◌, Some, None, Ok, Err, Option, Result, sym, refl, ap, ◌∙◌, append_assoc, append-nil, arith}
 use Rattle.terms.specs.declared.items.Node.{Node}
 use Rattle.terms.specs.declared.items.Item.{Item}
 use Rattle.terms.specs.declared.items.Item.TheVariants.{Atom as an_atom, Node as a_node, Open as opening, Close as close}
@@ -17,8 +17,8 @@ use Rattle.lookahead.specs.declared.word.Word.{Word}
 use Rattle.lookahead.specs.declared.word.Word.TheVariants as w
 use Rattle.faults.specs.declared.kinds.GrammarFault.{GrammarFault}
 use Rattle.faults.specs.Grammar.{number, place}
-use Rattle.lookahead.specs.Ahead.{cons, size, gives, Moves}
-use Rattle.loader.specs.Readings.{is_less_lem, starts, entering, behind, Through, Goes, ThroughPath, GoesPath, GoesEnd}
+use Rattle.lookahead.specs.Ahead.{cons, gives, Moves}
+use Rattle.loader.specs.Readings.{is_less_lem, entering, behind, Through, Goes, ThroughPath, GoesPath, GoesEnd}
 use Rattle.loader.proofs.Runs
 
 then_then : (t u v : Terms) → then (then t u) v ≡ then t (then u v)

@@ -6,7 +6,6 @@ use Rattle.terms.specs.Terms.{done}
 use Rattle.terms.specs.Maps.{every, atom_in_range}
 use Rattle.stores.specs.Sentences.{Sentence}
 use Rattle.stores.specs.Refusals.{Limits}
-use Rattle.names.specs.declared.tables.Names.{Names as NameTables}
 use Rattle.grammar.specs.Trees.{Block, sentences}
 use Rattle.grammar.specs.Parsing.{Stream, State, between, body, begun, side, ready, outside, Front, Head, whole, front_sentences}
 use Rattle.grammar.specs.Texts.{Names, Loaded, rejected}
@@ -14,7 +13,7 @@ use Rattle.grammar.specs.Texts as texts
 use Rattle.loader.specs.declared.ends.Due.{Due}
 use Rattle.loader.specs.declared.ends.Due.TheVariants.{Equation, RightSide}
 use Rattle.faults.specs.declared.kinds.GrammarFault.{GrammarFault}
-use Rattle.lookahead.specs.declared.parser.Parser.{Parser}
+use Rattle.loader.specs.declared.reader.Reader.{Reader}
 use Rattle.faults.specs.Grammar.{number, place}
 use Rattle.lookahead.specs.Ahead.{Grown, names_of, rest, final, gives}
 
@@ -70,9 +69,9 @@ abbrev pub Leaves : Result (Unit {0}) GrammarFault → Names → Names → List 
 Leaves (Ok u) ns ns' kept = Grown ns ns'
 Leaves (Err e) ns ns' kept = (kept ≡ []) × (ns' ≡ ns)
 
--- The same of a parser and the names, before and after.
-abbrev pub ReadsOn : Limits → Node → (Front → State) → NameTables → Parser → List Sentence → Result (Option Due) GrammarFault → NameTables → Parser → List Atom → List Sentence → Type 0
-ReadsOn l n σ t p kept r t' p' left kept' = GoesOn l n σ (rest (names_of t) p) (final (names_of t) p) kept r (rest (names_of t') p') (final (names_of t') p') left kept'
+-- The same of a reader, before and after.
+abbrev pub ReadsOn : Limits → Node → (Front → State) → Reader → List Sentence → Result (Option Due) GrammarFault → Reader → List Atom → List Sentence → Type 0
+ReadsOn l n σ x kept r x' left kept' = GoesOn l n σ (rest (names_of x.names.now) x.parser) (final (names_of x.names.now) x.parser) kept r (rest (names_of x'.names.now) x'.parser) (final (names_of x'.names.now) x'.parser) left kept'
 
-abbrev pub ReadsBlock : Limits → NameTables → Parser → List Sentence → Result (Unit {0}) GrammarFault → NameTables → Parser → List Sentence → Type 0
-ReadsBlock l t p kept r t' p' kept' = GoesBlock l (rest (names_of t) p) (final (names_of t) p) kept r (rest (names_of t') p') (final (names_of t') p') kept'
+abbrev pub ReadsBlock : Limits → Reader → List Sentence → Result (Unit {0}) GrammarFault → Reader → List Sentence → Type 0
+ReadsBlock l x kept r x' kept' = GoesBlock l (rest (names_of x.names.now) x.parser) (final (names_of x.names.now) x.parser) kept r (rest (names_of x'.names.now) x'.parser) (final (names_of x'.names.now) x'.parser) kept'

@@ -10,12 +10,11 @@ use Rattle.stores.specs.declared.refusals.Refusal.{Refusal}
 use Rattle.stores.specs.Sentences.{Sentence}
 use Rattle.stores.specs.Refusals.{Limits}
 use Rattle.stores.specs.Refusals as stores
-use Rattle.names.specs.declared.tables.Names.{Names as NameTables}
 use Rattle.grammar.specs.Parsing.{Stream, more_atoms, body, begun, Front}
 use Rattle.grammar.specs.Loading.{late_refusal}
 use Rattle.grammar.specs.Texts.{Names, rejected}
 use Rattle.faults.specs.declared.kinds.GrammarFault.{GrammarFault}
-use Rattle.lookahead.specs.declared.parser.Parser.{Parser}
+use Rattle.loader.specs.declared.reader.Reader.{Reader}
 use Rattle.loader.specs.declared.collecting.NotAnAtom.{NotAnAtom}
 use Rattle.faults.specs.Grammar.{number, place}
 use Rattle.lookahead.specs.Ahead.{names_of, rest, final, gives}
@@ -29,8 +28,8 @@ abbrev pub GoesLeft : ℕ → Stream → Names → Result (Unit {0}) GrammarFaul
 GoesLeft s S F (Ok u) S' F' left = ThroughLeft s S F S' F' left
 GoesLeft s S F (Err e) S' F' left = (l : Limits) (f : Front) → gives l S F (body f) ≡ rejected (number e) (place e)
 
-abbrev pub ReadsLeft : NameTables → Parser → Result (Unit {0}) GrammarFault → NameTables → Parser → List Atom → Type 0
-ReadsLeft n p r n' p' left = GoesLeft p.place (rest (names_of n) p) (final (names_of n) p) r (rest (names_of n') p') (final (names_of n') p') left
+abbrev pub ReadsLeft : Reader → Result (Unit {0}) GrammarFault → Reader → List Atom → Type 0
+ReadsLeft x r x' left = GoesLeft x.parser.place (rest (names_of x.names.now) x.parser) (final (names_of x.names.now) x.parser) r (rest (names_of x'.names.now) x'.parser) (final (names_of x'.names.now) x'.parser) left
 
 -- a sentence that the grammar lets pass
 pub record Spelt (x : Sentence) : Type 0 where

@@ -1,3 +1,4 @@
+pub mod Onward
 pub mod Readings
 pub mod Equations
 pub mod Blocks

@@ -1,5 +1,6 @@
 -- What the readers of terms come to.
-use Rattle.std.specs.Prelude.{◌≡◌, ℕ, suc, ◌+◌, ◌≤◌, Bool, true, false, List, ◌++◌, length, Some, None, Ok, Err, Option, Result}
+use Rattle.std.specs.Prelude.{◌≡◌, ℕ, suc, ◌+◌, ◌≤◌, Bool, true, false, List, ◌++◌, length, Some, None, Ok, Err, Option, Result, vec_len, vec_capacity}
+use Rattle.std.specs.Global.{Vec}
 use Rattle.terms.specs.declared.items.Node.{Node}
 use Rattle.terms.specs.declared.items.Item.{Item}
 use Rattle.terms.specs.declared.items.Quoting.{Quoting}
@@ -8,7 +9,6 @@ use Rattle.terms.specs.Limits.{nesting_limit}
 use Rattle.terms.specs.Terms.{Terms, done, path, flat, nesting}
 use Rattle.terms.specs.Maps.{every, item_in_range}
 use Rattle.stores.specs.Refusals.{Limits}
-use Rattle.names.specs.declared.tables.Names.{Names as NameTables}
 use Rattle.grammar.specs.Parsing.{Stream, State, side, Phase, ready, closed, coloned, quoting, unquoting, Frames, outside, Head, then, open_paths}
 use Rattle.grammar.specs.Texts.{Names, rejected}
 use Rattle.faults.specs.declared.kinds.GrammarFault.{GrammarFault}
@@ -16,8 +16,9 @@ use Rattle.faults.specs.Grammar.{number, place}
 use Rattle.words.specs.declared.faults.WordRefusal.{WordRefusal}
 use Rattle.lookahead.specs.declared.word.Word.{Word}
 use Rattle.lookahead.specs.declared.word.Word.TheVariants as w
-use Rattle.lookahead.specs.declared.parser.Parser.{Parser}
 use Rattle.lookahead.specs.Ahead.{names_of, rest, final, size, gives}
+use Rattle.loader.specs.declared.reader.Reader.{Reader}
+use Rattle.loader.specs.Onward.{Onward}
 use Rattle.loader.specs.declared.ends.NextEquation.{NextEquation}
 
 abbrev pub is_less_lem : Result Word WordRefusal → Bool
@@ -199,21 +200,31 @@ Stops r (Ok None) k = starts k ≡ false
 Stops r (Ok (Some n)) k = is_next r k ≡ true
 Stops r (Err e) k = Unit {0}
 
--- The same of a parser and the names, before and after.
-abbrev pub words_left : NameTables → Parser → ℕ
-words_left n p = size (rest (names_of n) p)
+-- The same of a reader, before and after.
+abbrev pub words_left : Reader → ℕ
+words_left x = size (rest (names_of x.names.now) x.parser)
 
-abbrev pub ReadsTerms : ℕ → Phase → NameTables → Parser → List Item → Result (Unit {0}) GrammarFault → NameTables → Parser → List Item → Type 0
-ReadsTerms left ph n p out r n' p' out' =
-    Goes left ph (rest (names_of n) p) (final (names_of n) p) out r (rest (names_of n') p') (final (names_of n') p') out'
+-- there is room for an item for each word that is left, and for so many more
+abbrev pub HasRoom : ℕ → Reader → Vec Item → Type 0
+HasRoom more x out = more + (vec_len out + words_left x) ≤ vec_capacity out
 
-abbrev pub ReadsPath : ℕ → Quoting → Option Node → NameTables → Parser → List Item → Result (Unit {0}) GrammarFault → NameTables → Parser → List Item → Type 0
-ReadsPath left q m n p out r n' p' out' =
-    GoesPath left q m p.place (rest (names_of n) p) (final (names_of n) p) out r (rest (names_of n') p') (final (names_of n') p') out'
+-- The items keep their memory, and each item has taken a word, but for so many more.
+pub record TakesWords (more : ℕ) (x : Reader) (out : Vec Item) (read : Bool) (x' : Reader) (out' : Vec Item) : Type 0 where
+  pub onward : Onward x x'
+  pub capacity : vec_capacity out' ≡ vec_capacity out
+  pub each : read ≡ true → vec_len out' + words_left x' ≤ more + (vec_len out + words_left x)
 
-abbrev pub ReadsEnd : NameTables → Parser → Result (Unit {0}) GrammarFault → NameTables → Parser → Type 0
-ReadsEnd n p r n' p' = GoesEnd (rest (names_of n) p) (final (names_of n) p) r (rest (names_of n') p') (final (names_of n') p')
+abbrev pub ReadsTerms : ℕ → Phase → Reader → List Item → Result (Unit {0}) GrammarFault → Reader → List Item → Type 0
+ReadsTerms left ph x out r x' out' =
+    Goes left ph (rest (names_of x.names.now) x.parser) (final (names_of x.names.now) x.parser) out r (rest (names_of x'.names.now) x'.parser) (final (names_of x'.names.now) x'.parser) out'
 
-abbrev pub ReadsSide : Bool → NameTables → Parser → List Item → Result (Option NextEquation) GrammarFault → NameTables → Parser → List Item → Type 0
-ReadsSide b n p out r n' p' out' =
-    GoesSide b (rest (names_of n) p) (final (names_of n) p) out r (rest (names_of n') p') (final (names_of n') p') out'
+abbrev pub ReadsPath : ℕ → Quoting → Option Node → Reader → List Item → Result (Unit {0}) GrammarFault → Reader → List Item → Type 0
+ReadsPath left q m x out r x' out' =
+    GoesPath left q m x.parser.place (rest (names_of x.names.now) x.parser) (final (names_of x.names.now) x.parser) out r (rest (names_of x'.names.now) x'.parser) (final (names_of x'.names.now) x'.parser) out'
+
+abbrev pub ReadsEnd : Reader → Result (Unit {0}) GrammarFault → Reader → Type 0
+ReadsEnd x r x' = GoesEnd (rest (names_of x.names.now) x.parser) (final (names_of x.names.now) x.parser) r (rest (names_of x'.names.now) x'.parser) (final (names_of x'.names.now) x'.parser)
+
+abbrev pub ReadsSide : Bool → Reader → List Item → Result (Option NextEquation) GrammarFault → Reader → List Item → Type 0
+ReadsSide b x out r x' out' =
+    GoesSide b (rest (names_of x.names.now) x.parser) (final (names_of x.names.now) x.parser) out r (rest (names_of x'.names.now) x'.parser) (final (names_of x'.names.now) x'.parser) out'

@@ -6,69 +6,62 @@ ghost use Rattle.stores.specs.Refusals.{Limits};
 ghost use Rattle.grammar.specs.Parsing.{body};
 ghost use Rattle.lookahead.specs.declared.word.Word.TheVariants as w;
 ghost use Rattle.loader.specs.declared.ends.Due.TheVariants as due;
-ghost use Rattle.lookahead.specs.Ahead.{Grown, names_of};
+ghost use Rattle.loader.specs.Onward.{Onward};
 ghost use Rattle.loader.specs.Readings.{words_left};
 ghost use Rattle.loader.specs.Blocks.{state_at, at_side, ReadsOn, ReadsBlock};
 
 use crate::collecting::collect_atoms;
 use crate::ends::Due;
 use crate::keeping::keep;
-use crate::left::left_path;
 use crate::loader::Loader;
-use crate::reading::right_side;
+use crate::reader::Reader;
 use faults::GrammarFault;
-use lookahead::{Parser, Word};
-use names::Names;
+use lookahead::Word;
 use std::mem::swap;
 use stores::Keeper;
 use terms::Node;
 
 impl Loader {
     // The left path of an equation; or the full stop that ends the block.
-    fn equation(
-        &mut self,
-        p: &mut Parser<'_>,
-        names: &mut Names,
-    ) -> Result<Option<Due>, GrammarFault>
-        requires few { words_left names.old p.old ≤ 65536 }
+    fn equation(&mut self, reader: &mut Reader<'_, '_>) -> Result<Option<Due>, GrammarFault>
+        requires few { words_left reader.old ≤ 65536 }
         requires left { every atom_in_range self.old.left.items ≡ true }
-        ensures goes { (l : Limits) (n : Node) (kept : List Sentence) → ReadsOn l n body names.old p.old kept result names.new p.new self.new.left.items kept }
-        ensures grows { Grown (names_of names.old) (names_of names.new) }
-        ensures less { is_ok result ≡ true → words_left names.new p.new < words_left names.old p.old }
+        ensures goes { (l : Limits) (n : Node) (kept : List Sentence) → ReadsOn l n body reader.old kept result reader.new self.new.left.items kept }
+        ensures onward { Onward reader.old reader.new }
+        ensures less { is_ok result ≡ true → words_left reader.new < words_left reader.old }
     {
-        match p.word {
+        match reader.parser.word {
             Ok(Word::Less) => {
-                let place = p.place;
-                left_path(p, names, &mut self.left)?;
+                let place = reader.parser.place;
+                reader.left_path(&mut self.left)?;
                 Ok(Some(Due::RightSide(place)))
             }
             Ok(Word::Stop) => {
-                p.advance(names);
+                reader.advance();
                 Ok(None)
             }
-            _ => Err(p.misplaced()),
+            _ => Err(reader.misplaced()),
         }
     }
 
     // A right side in ( ), from its first term through its ).
     fn round_side<K: Keeper>(
         &mut self,
-        p: &mut Parser<'_>,
-        names: &mut Names,
+        reader: &mut Reader<'_, '_>,
         keeper: &mut K,
         node: Node,
         place: usize,
     ) -> Result<Option<Due>, GrammarFault>
-        requires few { words_left names.old p.old ≤ 65536 }
+        requires few { words_left reader.old ≤ 65536 }
         requires named { node_in_range node ≡ true }
         requires left { every atom_in_range self.old.left.items ≡ true }
-        ensures goes { ReadsOn K.Keeper.limits node (at_side true place self.old.left.items) names.old p.old (K.Keeper.kept keeper.old) result names.new p.new self.new.left.items (K.Keeper.kept keeper.new) }
-        ensures grows { Grown (names_of names.old) (names_of names.new) }
-        ensures less { is_ok result ≡ true → words_left names.new p.new < words_left names.old p.old }
+        ensures goes { ReadsOn K.Keeper.limits node (at_side true place self.old.left.items) reader.old (K.Keeper.kept keeper.old) result reader.new self.new.left.items (K.Keeper.kept keeper.new) }
+        ensures onward { Onward reader.old reader.new }
+        ensures less { is_ok result ≡ true → words_left reader.new < words_left reader.old }
     {
         self.items.clear();
-        let _ = right_side(p, names, &mut self.items, true)?;
-        match p.word {
+        let _ = reader.right_side(&mut self.items, true)?;
+        match reader.parser.word {
             Ok(Word::Close) => {
                 keep(
                     keeper,
@@ -77,32 +70,31 @@ impl Loader {
                     self.items.as_slice(),
                     place,
                 )?;
-                p.advance(names);
+                reader.advance();
                 Ok(Some(Due::Equation))
             }
-            _ => Err(p.misplaced()),
+            _ => Err(reader.misplaced()),
         }
     }
 
     // A right side without ( ), through the full stop or the == of the next equation.
     fn bare_side<K: Keeper>(
         &mut self,
-        p: &mut Parser<'_>,
-        names: &mut Names,
+        reader: &mut Reader<'_, '_>,
         keeper: &mut K,
         node: Node,
         place: usize,
     ) -> Result<Option<Due>, GrammarFault>
-        requires few { words_left names.old p.old ≤ 65536 }
+        requires few { words_left reader.old ≤ 65536 }
         requires named { node_in_range node ≡ true }
         requires left { every atom_in_range self.old.left.items ≡ true }
-        ensures goes { ReadsOn K.Keeper.limits node (at_side false place self.old.left.items) names.old p.old (K.Keeper.kept keeper.old) result names.new p.new self.new.left.items (K.Keeper.kept keeper.new) }
-        ensures grows { Grown (names_of names.old) (names_of names.new) }
-        ensures less { is_ok result ≡ true → words_left names.new p.new < words_left names.old p.old }
+        ensures goes { ReadsOn K.Keeper.limits node (at_side false place self.old.left.items) reader.old (K.Keeper.kept keeper.old) result reader.new self.new.left.items (K.Keeper.kept keeper.new) }
+        ensures onward { Onward reader.old reader.new }
+        ensures less { is_ok result ≡ true → words_left reader.new < words_left reader.old }
     {
         self.items.clear();
-        match right_side(p, names, &mut self.items, false)? {
-            None => match p.word {
+        match reader.right_side(&mut self.items, false)? {
+            None => match reader.parser.word {
                 Ok(Word::Stop) => {
                     keep(
                         keeper,
@@ -111,16 +103,16 @@ impl Loader {
                         self.items.as_slice(),
                         place,
                     )?;
-                    p.advance(names);
+                    reader.advance();
                     Ok(None)
                 }
-                _ => Err(p.misplaced()),
+                _ => Err(reader.misplaced()),
             },
             Some(next) => {
                 let end = self.items.len() - 1;
                 let path = &self.items.as_slice()[next.mark + 1..end];
                 let Ok(()) = collect_atoms(path, &mut self.next) else {
-                    return Err(p.misplaced());
+                    return Err(reader.misplaced());
                 };
                 keep(
                     keeper,
@@ -130,7 +122,7 @@ impl Loader {
                     place,
                 )?;
                 swap(&mut self.left, &mut self.next);
-                p.advance(names);
+                reader.advance();
                 Ok(Some(Due::RightSide(next.place)))
             }
         }
@@ -139,27 +131,26 @@ impl Loader {
     // What is due, and what is due then: nothing behind the full stop.
     fn next_part<K: Keeper>(
         &mut self,
-        p: &mut Parser<'_>,
-        names: &mut Names,
+        reader: &mut Reader<'_, '_>,
         keeper: &mut K,
         node: Node,
         due: Due,
     ) -> Result<Option<Due>, GrammarFault>
-        requires few { words_left names.old p.old ≤ 65536 }
+        requires few { words_left reader.old ≤ 65536 }
         requires named { node_in_range node ≡ true }
         requires left { every atom_in_range self.old.left.items ≡ true }
-        ensures goes { ReadsOn K.Keeper.limits node (state_at (Some «due») self.old.left.items) names.old p.old (K.Keeper.kept keeper.old) result names.new p.new self.new.left.items (K.Keeper.kept keeper.new) }
-        ensures grows { Grown (names_of names.old) (names_of names.new) }
-        ensures less { is_ok result ≡ true → words_left names.new p.new < words_left names.old p.old }
+        ensures goes { ReadsOn K.Keeper.limits node (state_at (Some «due») self.old.left.items) reader.old (K.Keeper.kept keeper.old) result reader.new self.new.left.items (K.Keeper.kept keeper.new) }
+        ensures onward { Onward reader.old reader.new }
+        ensures less { is_ok result ≡ true → words_left reader.new < words_left reader.old }
     {
         match due {
-            Due::Equation => self.equation(p, names),
-            Due::RightSide(place) => match p.word {
+            Due::Equation => self.equation(reader),
+            Due::RightSide(place) => match reader.parser.word {
                 Ok(Word::Open) => {
-                    p.advance(names);
-                    self.round_side(p, names, keeper, node, place)
+                    reader.advance();
+                    self.round_side(reader, keeper, node, place)
                 }
-                _ => self.bare_side(p, names, keeper, node, place),
+                _ => self.bare_side(reader, keeper, node, place),
             },
         }
     }
@@ -167,26 +158,25 @@ impl Loader {
     // A block from its node on.
     pub(crate) fn block<K: Keeper>(
         &mut self,
-        p: &mut Parser<'_>,
-        names: &mut Names,
+        reader: &mut Reader<'_, '_>,
         keeper: &mut K,
         node: Node,
     ) -> Result<(), GrammarFault>
-        requires few { words_left names.old p.old ≤ 65536 }
-        requires starts { p.old.word ≡ Ok (w.Node node) }
-        ensures goes { ReadsBlock K.Keeper.limits names.old p.old (K.Keeper.kept keeper.old) result names.new p.new (K.Keeper.kept keeper.new) }
-        ensures grows { Grown (names_of names.old) (names_of names.new) }
-        ensures less { is_ok result ≡ true → words_left names.new p.new < words_left names.old p.old }
+        requires few { words_left reader.old ≤ 65536 }
+        requires starts { reader.old.parser.word ≡ Ok (w.Node node) }
+        ensures goes { ReadsBlock K.Keeper.limits reader.old (K.Keeper.kept keeper.old) result reader.new (K.Keeper.kept keeper.new) }
+        ensures onward { Onward reader.old reader.new }
+        ensures less { is_ok result ≡ true → words_left reader.new < words_left reader.old }
     {
-        p.advance(names);
-        let Ok(Word::Colon) = p.word else {
-            return Err(p.misplaced());
+        reader.advance();
+        let Ok(Word::Colon) = reader.parser.word else {
+            return Err(reader.misplaced());
         };
-        p.advance(names);
+        reader.advance();
         self.left.clear();
         let mut next = Some(Due::Equation);
         while let Some(due) = next {
-            next = self.next_part(p, names, keeper, node, due)?;
+            next = self.next_part(reader, keeper, node, due)?;
         }
         Ok(())
     }

@@ -8,6 +8,7 @@ mod keeping;
 mod left;
 mod loader;
 mod loading;
+mod reader;
 mod reading;
 
 pub use loader::Loader;

@@ -8,6 +8,7 @@ ghost use Rattle.loader.specs.Blocks.{GoesText, Leaves};
 ghost use Rattle.loader.specs.Loads.{Loads, KeepsTheTheorySpelt};
 
 use crate::loader::Loader;
+use crate::reader::Reader;
 use crate::reading::no_number;
 use faults::{GrammarFault, LoadFault, TEXT_BYTES};
 use lookahead::{Parser, Word};
@@ -38,14 +39,15 @@ impl Loader {
         ensures goes { GoesText (gives K.Keeper.limits (numbering (names_of names.old) (words_of text.now)) (all_names (names_of names.old) (words_of text.now)) (between [])) result (names_of names.new) (K.Keeper.kept keeper.new) }
         ensures grows { Grown (names_of names.old) (names_of names.new) }
     {
-        let mut p = Parser::new(text, names);
-        while let Ok(Word::Node(node)) = p.word {
-            self.block(&mut p, names, keeper, node)?;
+        let parser = Parser::new(text, names);
+        let mut reader = Reader { parser, names };
+        while let Ok(Word::Node(node)) = reader.parser.word {
+            self.block(&mut reader, keeper, node)?;
         }
-        match p.word {
+        match reader.parser.word {
             Ok(Word::End) => Ok(()),
-            Ok(Word::UnnumberedNode) => Err(no_number(p.place)),
-            _ => Err(p.misplaced()),
+            Ok(Word::UnnumberedNode) => Err(no_number(reader.parser.place)),
+            _ => Err(reader.misplaced()),
         }
     }
 

@@ -1,8 +1,9 @@
 use Rattle.std.proofs.Common.{◌≡◌, ◌+◌, ◌*◌, ◌≤◌, vec_items, vec_len, vec_capacity}
 use Rattle.grammar.specs.Parsing.{ready}
-use Rattle.lookahead.specs.Ahead.{Grown, names_of, rest, final}
+use Rattle.lookahead.specs.Ahead.{names_of, rest, final}
+use Rattle.loader.specs.Onward.{Onward}
 use Rattle.loader.specs.Readings.{words_left, Through}
-use Rattle.loader.proofs.reading.+term_readers.Given as goal
+use Rattle.loader.proofs.reader.Reader.+term_readers.Given as goal
 
 abbrev pub decreases-path : goal.decreases-path
 decreases-path l = 8 * l.left
@@ -28,14 +29,14 @@ decreases-term l = 8 * l.left + 5
 abbrev pub decreases-terms : goal.decreases-terms
 decreases-terms l = 8 * l.left + 6
 
-abbrev pub invariant-terms-loop-p : goal.invariant-terms-loop-p
-invariant-terms-loop-p l =
-    Through l.left ready (rest (names_of l.initial.names) l.initial.p) (final (names_of l.initial.names) l.initial.p) (vec_items l.initial.items) (rest (names_of l.names) l.p) (final (names_of l.names) l.p) (vec_items l.items)
-    × Grown (names_of l.initial.names) (names_of l.names)
-    × (words_left l.names l.p ≤ words_left l.initial.names l.initial.p)
-    × (vec_len l.items + words_left l.names l.p ≤ vec_capacity l.items)
-    × (vec_len l.items + words_left l.names l.p ≤ vec_len l.initial.items + words_left l.initial.names l.initial.p)
+abbrev pub invariant-terms-loop-self : goal.invariant-terms-loop-self
+invariant-terms-loop-self l =
+    Through l.left ready (rest (names_of l.initial.self.names.now) l.initial.self.parser) (final (names_of l.initial.self.names.now) l.initial.self.parser) (vec_items l.initial.items) (rest (names_of l.self.names.now) l.self.parser) (final (names_of l.self.names.now) l.self.parser) (vec_items l.items)
+    × Onward l.initial.self l.self
+    × (words_left l.self ≤ words_left l.initial.self)
+    × (vec_len l.items + words_left l.self ≤ vec_capacity l.items)
+    × (vec_len l.items + words_left l.self ≤ vec_len l.initial.items + words_left l.initial.self)
     × (vec_capacity l.items ≡ vec_capacity l.initial.items)
 
-abbrev pub decreases-terms-loop-p : goal.decreases-terms-loop-p
-decreases-terms-loop-p l = words_left l.names l.p
+abbrev pub decreases-terms-loop-self : goal.decreases-terms-loop-self
+decreases-terms-loop-self l = words_left l.self

@@ -1,0 +1,95 @@
+use Rattle.std.proofs.Common.{◌≡◌, Ok, rules, List, [], ◌∷◌, ◌++◌, vec_items, sym, refl, ap, ◌∙◌, arith}
+use Rattle.terms.specs.declared.items.Atom.{Atom}
+use Rattle.terms.specs.Maps.{every, atom_in_range}
+use Rattle.grammar.specs.Parsing.{lefting, lefted}
+use Rattle.faults.specs.Grammar.{number, place}
+use Rattle.lookahead.specs.Ahead.{names_of, rest, final, later, gives}
+use Rattle.loader.proofs.Onward
+use Rattle.lookahead.specs.declared.word.Word.TheVariants as w
+use Rattle.lookahead.specs.Ended.{number_in_range}
+use Rattle.loader.proofs.Runs
+use Rattle.loader.proofs.Turns
+use Rattle.loader.proofs.Lefts
+use Rattle.loader.proofs.reader.Reader.left_path.Goals as goal
+
+pub loop-self-init : goal.loop-self-init
+loop-self-init c =
+    let z = Runs.one_word c.args.self.now.parser.place c.args.self.now.parser.word w.Less _ _ (Runs.only_less _ c.requires.starts) refl c.advance.ensures.size in (
+      (λ m f s. ap (λ (ls : List Atom). gives m (rest (names_of c.advance.new.self.names.now) c.advance.new.self.parser) (final (names_of c.advance.new.self.names.now) c.advance.new.self.parser) (lefting f s ls)) (sym c.clear.ensures.items)),
+      ap (every atom_in_range) c.clear.ensures.items,
+      Onward.still _,
+      omega arith,
+      omega (arith, c.clear.ensures.len, c.clear.ensures.capacity, c.requires.room),
+      refl,
+    )
+
+pub returns-in-Ok-UnnumberedAtom : goal.returns-in-Ok-UnnumberedAtom
+returns-in-Ok-UnnumberedAtom c =
+    let q : c.loop-self.self.parser.word ≡ Ok w.UnnumberedAtom = search rules in record {
+      goes = λ l f. Turns.with_names _ (Lefts.at_less l f c.args.self.now.parser.place c.args.self.now.parser.word (later (names_of c.args.self.now.names.now) c.args.self.now.parser) c.requires.starts) ∙ c.advance.ensures.moves l (lefting f c.args.self.now.parser.place []) ∙ c.loop-self.invariant.0 l f c.args.self.now.parser.place ∙ Turns.by_number l _ _ _ _ _ c.no_number.result (Lefts.no_atom l f _ _ _ _ _ q) (ap number c.no_number.ensures) (ap place c.no_number.ensures);
+      onward = Onward.on _ _ _ c.advance.ensures.onward c.loop-self.invariant.2;
+      less = λ e. absurd (grind arith);
+      capacity = c.loop-self.invariant.5 ∙ c.clear.ensures.capacity;
+    }
+
+pub push_reserved-requires : goal.push_reserved-requires
+push_reserved-requires c =
+    let q : c.loop-self.self.parser.word ≡ Ok (w.Atom c.in-Ok-Atom.a) = search rules in
+    let z = Runs.one_word c.loop-self.self.parser.place c.loop-self.self.parser.word (w.Atom c.in-Ok-Atom.a) (later (names_of c.loop-self.self.names.now) c.loop-self.self.parser) (later (names_of c.loop-self.self.names.now) c.loop-self.self.parser) q refl refl in omega (arith, c.loop-self.invariant.4)
+
+pub loop-self-smaller : goal.loop-self-smaller
+loop-self-smaller c =
+    let q : c.loop-self.self.parser.word ≡ Ok (w.Atom c.in-Ok-Atom.a) = search rules in
+    let z = Runs.one_word c.loop-self.self.parser.place c.loop-self.self.parser.word (w.Atom c.in-Ok-Atom.a) _ _ q refl c.advance-in-Ok-Atom.ensures.size in
+    omega arith
+
+pub loop-self-preserved : goal.loop-self-preserved
+loop-self-preserved c =
+    let q : c.loop-self.self.parser.word ≡ Ok (w.Atom c.in-Ok-Atom.a) = search rules in
+    let z = Runs.one_word c.loop-self.self.parser.place c.loop-self.self.parser.word (w.Atom c.in-Ok-Atom.a) _ _ q refl c.advance-in-Ok-Atom.ensures.size in (
+      (λ m f s. c.loop-self.invariant.0 m f s ∙ Turns.with_names _ (Lefts.at_atom m f _ _ _ s _ c.in-Ok-Atom.a (sym q) (sym (ap number_in_range q) ∙ c.loop-self.self.parser.numbered)) ∙ c.advance-in-Ok-Atom.ensures.moves m (lefting f s (vec_items c.loop-self.left ++ c.in-Ok-Atom.a ∷ [])) ∙ ap (λ (ls : List Atom). gives m (rest (names_of c.advance-in-Ok-Atom.new.self.names.now) c.advance-in-Ok-Atom.new.self.parser) (final (names_of c.advance-in-Ok-Atom.new.self.names.now) c.advance-in-Ok-Atom.new.self.parser) (lefting f s ls)) (sym c.push_reserved.ensures.items)),
+      ap (every atom_in_range) c.push_reserved.ensures.items ∙ Lefts.every_more (vec_items c.loop-self.left) c.in-Ok-Atom.a c.loop-self.invariant.1 (sym (ap number_in_range q) ∙ c.loop-self.self.parser.numbered),
+      Onward.on _ _ _ c.loop-self.invariant.2 c.advance-in-Ok-Atom.ensures.onward,
+      omega (arith, c.loop-self.invariant.3),
+      omega (arith, c.loop-self.invariant.4, c.push_reserved.ensures.len, c.push_reserved.ensures.capacity),
+      c.push_reserved.ensures.capacity ∙ c.loop-self.invariant.5,
+    )
+
+pub returns-in_default-word : goal.returns-in_default-word
+returns-in_default-word c =
+    let not_atom : (a : Atom) → c.loop-self.self.parser.word ≡ Ok (w.Atom a) → ⊥ = λ a q. grind arith in
+    let no_atom : c.loop-self.self.parser.word ≡ Ok w.UnnumberedAtom → ⊥ = λ q. grind arith in
+    let not_greater : c.loop-self.self.parser.word ≡ Ok w.Greater → ⊥ = λ q. grind arith in record {
+      goes = λ l f. Turns.with_names _ (Lefts.at_less l f c.args.self.now.parser.place c.args.self.now.parser.word (later (names_of c.args.self.now.names.now) c.args.self.now.parser) c.requires.starts) ∙ c.advance.ensures.moves l (lefting f c.args.self.now.parser.place []) ∙ c.loop-self.invariant.0 l f c.args.self.now.parser.place ∙ Turns.by_number l _ _ _ _ _ c.misplaced.result (Lefts.no_greater l f _ _ _ _ _ not_atom no_atom not_greater) c.misplaced.ensures.number c.misplaced.ensures.place;
+      onward = Onward.on _ _ _ c.advance.ensures.onward c.loop-self.invariant.2;
+      less = λ e. absurd (grind arith);
+      capacity = c.loop-self.invariant.5 ∙ c.clear.ensures.capacity;
+    }
+
+pub returns-in_default-word-2 : goal.returns-in_default-word-2
+returns-in_default-word-2 c =
+    let g : c.loop-self.self.parser.word ≡ Ok w.Greater = search rules in
+    let not : c.advance-in-Ok-Greater.new.self.parser.word ≡ Ok w.Equals → ⊥ = λ q. grind arith in
+    record {
+      goes = λ l f. Turns.with_names _ (Lefts.at_less l f c.args.self.now.parser.place c.args.self.now.parser.word (later (names_of c.args.self.now.names.now) c.args.self.now.parser) c.requires.starts) ∙ c.advance.ensures.moves l (lefting f c.args.self.now.parser.place []) ∙ c.loop-self.invariant.0 l f c.args.self.now.parser.place ∙ Turns.with_names _ (Lefts.at_greater l f _ _ _ _ _ g) ∙ c.advance-in-Ok-Greater.ensures.moves l (lefted (record { front = f; place = c.args.self.now.parser.place; left = vec_items c.loop-self.left })) ∙ Turns.by_number l _ _ _ _ _ c.misplaced-in_default-word-2.result (Lefts.no_equals l _ _ _ _ not) c.misplaced-in_default-word-2.ensures.number c.misplaced-in_default-word-2.ensures.place;
+      onward = Onward.on _ _ _ (Onward.on _ _ _ c.advance.ensures.onward c.loop-self.invariant.2) c.advance-in-Ok-Greater.ensures.onward;
+      less = λ e. absurd (grind arith);
+      capacity = c.loop-self.invariant.5 ∙ c.clear.ensures.capacity;
+    }
+
+pub returns : goal.returns
+returns c =
+    let g : c.loop-self.self.parser.word ≡ Ok w.Greater = search rules in
+    let q : c.advance-in-Ok-Greater.new.self.parser.word ≡ Ok w.Equals = search rules in
+    let z₁ = Runs.one_word c.args.self.now.parser.place c.args.self.now.parser.word w.Less _ _ (Runs.only_less _ c.requires.starts) refl c.advance.ensures.size in
+    let z₂ = Runs.one_word c.loop-self.self.parser.place c.loop-self.self.parser.word w.Greater _ _ g refl c.advance-in-Ok-Greater.ensures.size in
+    let z₃ = Runs.one_word c.advance-in-Ok-Greater.new.self.parser.place c.advance-in-Ok-Greater.new.self.parser.word w.Equals _ _ q refl c.advance-2.ensures.size in
+    record {
+      goes = record {
+        in_range = c.loop-self.invariant.1;
+        comes = λ l f. Turns.with_names _ (Lefts.at_less l f c.args.self.now.parser.place c.args.self.now.parser.word (later (names_of c.args.self.now.names.now) c.args.self.now.parser) c.requires.starts) ∙ c.advance.ensures.moves l (lefting f c.args.self.now.parser.place []) ∙ c.loop-self.invariant.0 l f c.args.self.now.parser.place ∙ Turns.with_names _ (Lefts.at_greater l f _ _ _ _ _ g) ∙ c.advance-in-Ok-Greater.ensures.moves l (lefted (record { front = f; place = c.args.self.now.parser.place; left = vec_items c.loop-self.left })) ∙ Turns.with_names _ (Lefts.at_equals l _ _ _ _ q) ∙ c.advance-2.ensures.moves l _;
+      };
+      onward = Onward.on _ _ _ (Onward.on _ _ _ (Onward.on _ _ _ c.advance.ensures.onward c.loop-self.invariant.2) c.advance-in-Ok-Greater.ensures.onward) c.advance-2.ensures.onward;
+      less = λ e. omega (arith, c.loop-self.invariant.3);
+      capacity = c.loop-self.invariant.5 ∙ c.clear.ensures.capacity;
+    }

@@ -4,7 +4,7 @@
 use std::marker::Model;
 
 /// An entry: its bucket, and the entry before it there.
-#[derive(Clone, Copy)]
+#[derive(Clone, Copy, Debug, PartialEq, Eq)]
 struct Link {
     bucket: usize,
     before: Option<usize>,

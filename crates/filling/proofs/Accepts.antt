@@ -1,6 +1,7 @@
 -- When sentences that are added one by one are all taken.
 use Rattle.std.proofs.Common.{◌≡◌, ℕ, ◌+◌, ◌≤◌, Bool, true, false, cond, not, ◌&&◌, ◌||◌, ltb, ◌↔◌, List, [], ◌∷◌, ◌++◌, length, is_some, Some, None, Ok, Option, Result, sym, refl, ap, ◌∙◌, subst, arith}
-use Rattle.std.proofs.lemmas.List.{length_push}
+use Rattle.std.proofs.Math.Bool.{or_assoc, or-false}
+use Rattle.std.proofs.lemmas.List.{length_push, append-nil, append_assoc}
 use Rattle.std.proofs.lemmas.Bool.{and_parts, and_from, not-true, or_parts, or_from, ltb-false, le-ltb}
 use Rattle.terms.specs.Terms.{Terms, terms_of}
 use Rattle.terms.specs.Maps.{Map, every}
@@ -8,7 +9,7 @@ use Rattle.stores.specs.declared.refusals.Refusal.{Refusal}
 use Rattle.stores.specs.declared.refusals.Refusal.TheVariants as refused
 use Rattle.stores.specs.Sentences.{Sentence, is_pair, map_of, atoms_in, items_in}
 use Rattle.stores.specs.Refusals.{Limits, unfit, fits, over, refusal, or_else, answer}
-use Rattle.stores.proofs.Keeps.{atoms_push, items_push}
+use Rattle.stores.proofs.Keeps.{answered, atoms_push, items_push}
 use Rattle.filling.specs.Fills.{first_refusal, unless, kept_from, apart, Acceptable, Exactly, Filled}
 use Rattle.filling.proofs.Maps.{exactly}
 
@@ -23,20 +24,12 @@ some_cond : (b : Bool) (x : Terms) (o : Option Terms) → is_some (cond b (Some 
 some_cond true x o = refl
 some_cond false x o = refl
 
-or_assoc : (a b c : Bool) → (a || (b || c)) ≡ ((a || b) || c)
-or_assoc true b c = refl
-or_assoc false b c = refl
-
-or_false : (a : Bool) → (a || false) ≡ a
-or_false true = refl
-or_false false = refl
-
 pair_more : (ss : List Sentence) (s t : Sentence) → kept_pair (ss ++ s ∷ []) t ≡ (kept_pair ss t || is_pair t.node t.left s)
-pair_more [] s t = some_cond (is_pair t.node t.left s) (terms_of s.right) None ∙ or_false (is_pair t.node t.left s)
+pair_more [] s t = some_cond (is_pair t.node t.left s) (terms_of s.right) None ∙ or-false (is_pair t.node t.left s)
 pair_more (x ∷ ss) s t =
     some_cond (is_pair t.node t.left x) (terms_of x.right) (map_of (ss ++ s ∷ []) t.node t.left)
     ∙ ap (λ b. is_pair t.node t.left x || b) (pair_more ss s t)
-    ∙ or_assoc (is_pair t.node t.left x) (kept_pair ss t) (is_pair t.node t.left s)
+    ∙ sym (or_assoc (is_pair t.node t.left x) (kept_pair ss t) (is_pair t.node t.left s))
     ∙ ap (λ b. b || is_pair t.node t.left s) (sym (some_cond (is_pair t.node t.left x) (terms_of x.right) (map_of ss t.node t.left)))
 
 not_or : (a b : Bool) → not (a || b) ≡ (not a && not b)
@@ -196,23 +189,11 @@ acceptable k ts = (
 )
 
 -- all are kept where none is refused
-append_rest : (ss ts : List Sentence) (t : Sentence) → (ss ++ t ∷ []) ++ ts ≡ ss ++ t ∷ ts
-append_rest [] ts t = refl
-append_rest (s ∷ ss) ts t = ap (λ x. s ∷ x) (append_rest ss ts t)
-
-append_none : (ss : List Sentence) → ss ≡ ss ++ []
-append_none [] = refl
-append_none (s ∷ ss) = ap (λ x. s ∷ x) (append_none ss)
-
 pub all_kept : (k : Limits) (ss ts : List Sentence) → first_refusal k ss ts ≡ None → kept_from k ss ts ≡ ss ++ ts
-all_kept k ss [] e = append_none ss
+all_kept k ss [] e = sym (append-nil ss)
 all_kept k ss (t ∷ ts) e =
     let p = rest_taken (refusal k ss t) (first_refusal k (ss ++ t ∷ []) ts) e in
-    ap (λ u. unless u ss (kept_from k (ss ++ t ∷ []) ts)) p.0 ∙ all_kept k (ss ++ t ∷ []) ts p.1 ∙ append_rest ss ts t
-
-pub answered : (o : Option Refusal) → Ok tt ≡ answer o → o ≡ None
-answered None e = refl
-answered (Some f) e = absurd (let z : ◌≡◌ {A = ℕ} 0 1 = cc in omega arith)
+    ap (λ u. unless u ss (kept_from k (ss ++ t ∷ []) ts)) p.0 ∙ all_kept k (ss ++ t ∷ []) ts p.1 ∙ append_assoc ss (t ∷ []) ts
 
 -- what filling answers, by what it comes to
 pub outcome : (k : Limits) (ts ss : List Sentence) (r : Result (Unit {0}) Refusal) (M : Map) → r ≡ answer (first_refusal k [] ts) → ss ≡ kept_from k [] ts → M ≡ map_of ss

@@ -4,6 +4,7 @@ use Rattle.std.proofs.lemmas.List.{at_drop_more, at_drop_all}
 use Rattle.stores.specs.declared.refusals.Refusal.{Refusal}
 use Rattle.stores.specs.Sentences.{Sentence}
 use Rattle.stores.specs.Refusals.{Limits, refusal, or_else, answer, kept_after}
+use Rattle.stores.proofs.Keeps.{answered}
 use Rattle.filling.specs.declared.given.Given.{Given}
 use Rattle.filling.specs.Fills.{sentence_of, sentences_of, first_refusal, unless, kept_from}
 
@@ -23,10 +24,6 @@ kept_so : (f : Refusal) (o : Option Refusal) (ss ss' rest : List Sentence) (t : 
 kept_so f None ss ss' rest t e h = absurd (let z : ◌≡◌ {A = ℕ} 0 1 = cc in omega arith)
 kept_so f (Some g) ss ss' rest t e h = h
 
-passed : (u : Unit {0}) (o : Option Refusal) → Ok u ≡ answer o → o ≡ None
-passed u None e = refl
-passed u (Some g) e = absurd (let z : ◌≡◌ {A = ℕ} 0 1 = cc in omega arith)
-
 module _ (k : Limits) (all : List Given) (ss ss' : List Sentence) (i : ℕ) (l : i < length all) (inv : Left k all ss (drop i all)) where
   pub fill_refused : (f : Refusal) → Err f ≡ answer (refusal k ss (sentence_of (get_or all i none))) → ss' ≡ kept_after (refusal k ss (sentence_of (get_or all i none))) ss (sentence_of (get_or all i none))
       → (Err f ≡ answer (first_refusal k [] (sentences_of all))) × (ss' ≡ kept_from k [] (sentences_of all))
@@ -42,7 +39,7 @@ module _ (k : Limits) (all : List Given) (ss ss' : List Sentence) (i : ℕ) (l :
       → Left k all ss' (drop (i + 1) all)
   fill_more u e h =
       let t = sentence_of (get_or all i none) in
-      let o = passed u (refusal k ss t) e in
+      let o = answered (refusal k ss t) e in
       let s : ss' ≡ ss ++ t ∷ [] = h ∙ ap (λ x. kept_after x ss t) o in (
         inv.0 ∙ at_drop_more (λ (ys : List Given). first_refusal k ss (sentences_of ys)) all i none l
             ∙ ap (λ x. or_else x (first_refusal k (ss ++ t ∷ []) (sentences_of (drop (i + 1) all)))) o ∙ ap (λ x. first_refusal k x (sentences_of (drop (i + 1) all))) (sym s),

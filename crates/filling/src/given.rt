@@ -1,7 +1,7 @@
 // A sentence, as it is given to a keeper.
 use terms::{Atom, Item, Node};
 
-#[derive(Clone, Copy)]
+#[derive(Clone, Copy, Debug, PartialEq, Eq)]
 pub struct Given<'a> {
     pub node: Node,
     pub left: &'a [Atom],

@@ -23,9 +23,7 @@ pub fn fill<K: Keeper>(keeper: &mut K, sentences: &[Given]) -> Result<(), Refusa
 {
     keeper.clear();
     for s in sentences {
-        if let Err(refusal) = keeper.add(s.node, s.left, s.right) {
-            return Err(refusal);
-        }
+        keeper.add(s.node, s.left, s.right)?;
     }
     Ok(())
 }
@@ -41,21 +39,21 @@ pub fn fill_both<K: Keeper, L: Keeper>(
     ensures second { L.Keeper.kept second.new ≡ unless (first_refusal K.Keeper.limits [] (sentences_of sentences.now)) (L.Keeper.kept second.old) (kept_from L.Keeper.limits [] (sentences_of sentences.now)) }
     ensures alike { result ≡ Ok tt → Alike (K.Store.means first.new).map (L.Store.means second.new).map }
 {
-    if let Err(refusal) = fill(first, sentences) {
-        return Err(refusal);
-    }
+    fill(first, sentences)?;
     fill(second, sentences)
 }
 
 /// Copies a right side, and answers how many items it has: none where there is no such right side.
+// Kept: the caller's array, since an `ArrayVec` is filled from a default item, and no item is one.
 pub fn read<S: Store>(store: &S, node: Node, left: &[Atom], into: &mut [Item; 64]) -> usize
     ensures len { result ≡ length (items_of ((S.Store.means store.now).map node left.now)) }
     ensures items { take result into.new ≡ items_of ((S.Store.means store.now).map node left.now) }
 {
-    let mut n: usize = 0;
-    while let Some(item) = store.item(node, left, n) {
-        into[n] = item;
-        n += 1;
+    for (n, place) in into.iter_mut().enumerate() {
+        match store.item(node, left, n) {
+            Some(item) => *place = item,
+            None => return n,
+        }
     }
-    n
+    into.len()
 }

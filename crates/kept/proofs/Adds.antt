@@ -19,14 +19,14 @@ part_new : {X : Type 0} (xs ys : List X) → take (length ys) (drop (length xs) 
 part_new xs ys = ap (take (length ys)) (drop_at xs ys (length xs) refl) ∙ take_all (length ys) ys (omega arith)
 
 abbrev pub record_of : Node → List Atom → List Item → List Atom → List Item → Record
-record_of n bs is l r = record { node = n; left_at = length bs; left_len = length l; items_at = length is; items_len = length r }
+record_of n bs is l r = record { node = n; left = record { start = length bs; len = length l }; right = record { start = length is; len = length r } }
 
 sentences_kept : (rs : List Record) (bs l : List Atom) (is r : List Item) → Inside rs (length bs) (length is) → sentences rs (bs ++ l) (is ++ r) ≡ sentences rs bs is
 sentences_kept [] bs l is r h = refl
 sentences_kept (x ∷ rs) bs l is r h =
     let w = h 0 (omega arith) in
-    let a = part_kept bs l x.left_at x.left_len w.0 in
-    let i = part_kept is r x.items_at x.items_len w.1 in
+    let a = part_kept bs l x.left.start x.left.len w.0 in
+    let i = part_kept is r x.right.start x.right.len w.1 in
     let t = sentences_kept rs bs l is r (λ k q. h (suc k) (omega arith)) in
     cc
 
@@ -39,22 +39,22 @@ sentences_more rs bs l is r n h =
     let t = sentences_kept rs bs l is r h in
     cc
 
-pub inside_more : (rs : List Record) (x : Record) (a i b j : ℕ) → Inside rs a i → a ≤ b → i ≤ j → (x.left_at + x.left_len ≤ b) × (x.items_at + x.items_len ≤ j) → Inside (rs ++ x ∷ []) b j
+pub inside_more : (rs : List Record) (x : Record) (a i b j : ℕ) → Inside rs a i → a ≤ b → i ≤ j → (x.left.start + x.left.len ≤ b) × (x.right.start + x.right.len ≤ j) → Inside (rs ++ x ∷ []) b j
 inside_more rs x a i b j h p q w k l =
     let n = length_push rs x in
     ⊎_elim
-    (λ (o : k < length rs). let v = h k o in subst (λ (y : Record). (y.left_at + y.left_len ≤ b) × (y.items_at + y.items_len ≤ j)) (sym (get_or_append_left rs (x ∷ []) blank k o)) (omega arith, omega arith))
-    (λ (o : length rs ≤ k). let e : length rs ≡ k = omega arith in subst (λ (y : Record). (y.left_at + y.left_len ≤ b) × (y.items_at + y.items_len ≤ j)) (sym (get_or_push rs x blank k e)) w)
+    (λ (o : k < length rs). let v = h k o in subst (λ (y : Record). (y.left.start + y.left.len ≤ b) × (y.right.start + y.right.len ≤ j)) (sym (get_or_append_left rs (x ∷ []) blank k o)) (omega arith, omega arith))
+    (λ (o : length rs ≤ k). let e : length rs ≡ k = omega arith in subst (λ (y : Record). (y.left.start + y.left.len ≤ b) × (y.right.start + y.right.len ≤ j)) (sym (get_or_push rs x blank k e)) w)
     (order k (length rs))
 
 -- what `put` leaves, from what its three writes leave
 pub put_leaves : (rs rs' : List Record) (bs bs' l : List Atom) (is is' r : List Item) (n : Node) (a i : ℕ)
-    → rs' ≡ rs ++ record { node = n; left_at = a; left_len = length l; items_at = i; items_len = length r } ∷ [] → bs' ≡ bs ++ l → is' ≡ is ++ r → a ≡ length bs → i ≡ length is
+    → rs' ≡ rs ++ record { node = n; left = record { start = a; len = length l }; right = record { start = i; len = length r } } ∷ [] → bs' ≡ bs ++ l → is' ≡ is ++ r → a ≡ length bs → i ≡ length is
     → Inside rs (length bs) (length is) → (sentences rs' bs' is' ≡ sentences rs bs is ++ sentence n l r ∷ []) × Inside rs' (length bs') (length is')
 put_leaves rs rs' bs bs' l is is' r n a i er eb ei ea eo h =
     let p = ap length eb ∙ length-append bs l in
     let q = ap length ei ∙ length-append is r in
     let m = sentences_more rs bs l is r n h in
-    let x : Record = record { node = n; left_at = a; left_len = length l; items_at = i; items_len = length r } in
+    let x : Record = record { node = n; left = record { start = a; len = length l }; right = record { start = i; len = length r } } in
     let f : sentences rs' bs' is' ≡ sentences rs bs is ++ sentence n l r ∷ [] = cc in
     (f, subst (λ ys. Inside ys (length bs') (length is')) (sym er) (inside_more rs x (length bs) (length is) (length bs') (length is') h (omega arith) (omega arith) (omega arith, omega arith)))

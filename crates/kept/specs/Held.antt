@@ -1,5 +1,5 @@
 -- What is kept, and how much can be.
-use Rattle.std.specs.Prelude.{ℕ, ◌+◌, min, Bool, false, ◌||◌, List, [], length, Some, None, vec_items, Option, nat_lt}
+use Rattle.std.specs.Prelude.{ℕ, ◌+◌, min, Bool, false, ◌||◌, List, [], length, Some, None, Option, nat_lt}
 use Rattle.terms.specs.declared.items.Node.{Node}
 use Rattle.terms.specs.declared.items.Atom.{Atom}
 use Rattle.terms.specs.declared.items.Item.{Item}
@@ -7,15 +7,14 @@ use Rattle.stores.specs.Sentences.{Sentence, is_pair, atoms_in, items_in}
 use Rattle.stores.specs.Refusals.{Limits}
 use Rattle.kept.specs.declared.Kept.{Kept}
 use Rattle.kept.specs.declared.Room.{Room}
-use Rattle.kept.specs.Parts.{sentences}
 
 -- the sentences kept, in the order of their adding
 abbrev pub kept_in : Kept → List Sentence
-kept_in s = sentences (vec_items s.records) (vec_items s.atoms) (vec_items s.items)
+kept_in k = k.sentences
 
 -- for how much there is memory
 abbrev pub room_in : Kept → Room
-room_in s = s.room
+room_in k = k.room
 
 abbrev pub limits_of : Room → Limits
 limits_of r = record { sentences = r.sentences; atoms = r.atoms; items = r.items }

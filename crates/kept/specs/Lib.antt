@@ -1,3 +1,4 @@
+pub mod Contents
 pub mod Parts
 pub mod Held
 pub mod Firsts

@@ -1,13 +1,16 @@
 // Reading of what is kept, and keeping one sentence more.
-ghost use Rattle.std.specs.Prelude.{◌≡◌, ◌+◌, ◌<◌, ◌≤◌, false, not, [], ◌∷◌, ◌++◌, length, IfOk, if◌then◌else◌, vec_len};
+ghost use Rattle.std.specs.Prelude.{◌≡◌, ◌+◌, ◌≤◌, false, [], ◌∷◌, ◌++◌, length, Ok, Err, is_ok, IfOk, if◌then◌else◌, nat_lt};
 ghost use Rattle.std.specs.List.{slice_get};
 ghost use Rattle.stores.specs.Items.{item_at};
-ghost use Rattle.stores.specs.Sentences.{is_pair, sentence};
-ghost use Rattle.kept.specs.Parts.{sentence_of};
+ghost use Rattle.stores.specs.Sentences.{sentence};
+ghost use Rattle.stores.specs.declared.refusals.Refusal.{Refusal};
+ghost use Rattle.kept.specs.Contents.{with_sentences};
+ghost use Rattle.kept.specs.Parts.{part_of, end_of};
 ghost use Rattle.kept.specs.Held.{kept_in, room_in, smaller, passes, right_of, of_pair};
 
-use super::{Kept, Record, Room};
+use super::{Kept, Record, Room, Span};
 use std::alloc::{AllocError, Global};
+use stores::Refusal;
 use terms::{Atom, Item, Node};
 
 impl Room {
@@ -23,10 +26,27 @@ impl Room {
     }
 }
 
+impl Span {
+    // The part of a list.
+    fn of<T>(self, all: &[T]) -> &[T]
+        requires { end_of self ≤ length all.now }
+        ensures { result.now ≡ part_of all.now self }
+    {
+        &all[self.start..][..self.len]
+    }
+}
+
+// Whether more on top of what is used would pass a limit.
+fn is_over(used: usize, more: usize, limit: usize) -> bool
+    ensures { result ≡ nat_lt limit (used + more) }
+{
+    more > limit || used > limit - more
+}
+
 impl Kept {
     /// Nothing kept, with all the memory that it will ever take.
     pub fn new(heap: Global, room: Room) -> Result<Kept, AllocError>
-        ensures { IfOk result (λ s. (kept_in s ≡ []) × (room_in s ≡ room)) }
+        ensures { IfOk result (λ k. k ≡ record { room = room; sentences = [] }) }
     {
         let records = Vec::with_capacity(heap, room.sentences)?;
         let atoms = Vec::with_capacity(heap, room.atoms)?;
@@ -40,8 +60,7 @@ impl Kept {
     }
 
     pub fn clear(&mut self)
-        ensures kept { kept_in self.new ≡ [] }
-        ensures room { room_in self.new ≡ room_in self.old }
+        ensures { self.new ≡ with_sentences self.old [] }
     {
         self.records.clear();
         self.atoms.clear();
@@ -55,60 +74,21 @@ impl Kept {
         self.records.len()
     }
 
-    // Item k of a record's right side.
-    fn nth_in(&self, r: Record, k: usize) -> Option<Item>
-        requires { r.items_at + r.items_len ≤ vec_len self.now.items }
-        ensures { result ≡ item_at (sentence_of self.now.atoms.items self.now.items.items r).right k }
-    {
-        if k < r.items_len {
-            Some(self.items[r.items_at + k])
-        } else {
-            None
-        }
-    }
-
     /// Item k of the right side of the sentence of a number.
     pub fn item_of(&self, number: usize, k: usize) -> Option<Item>
         ensures { result ≡ item_at (right_of (slice_get (kept_in self.now) number)) k }
     {
-        if number < self.records.len() {
-            self.nth_in(self.records[number], k)
-        } else {
-            None
-        }
-    }
-
-    // A record's left path.
-    fn left_of(&self, r: Record) -> &[Atom]
-        requires { r.left_at + r.left_len ≤ vec_len self.now.atoms }
-        ensures { result.now ≡ (sentence_of self.now.atoms.items self.now.items.items r).left }
-    {
-        let from = r.left_at;
-        let to = r.left_at + r.left_len;
-        let atoms = self.atoms.as_slice();
-        &atoms[from..to]
-    }
-
-    // Whether a record is of a pair.
-    fn record_is(&self, r: Record, node: Node, left: &[Atom]) -> bool
-        requires { r.left_at + r.left_len ≤ vec_len self.now.atoms }
-        ensures { result ≡ is_pair node left.now (sentence_of self.now.atoms.items self.now.items.items r) }
-    {
-        if node.0 != r.node.0 {
-            return false;
-        }
-        let own = self.left_of(r);
-        left == own
+        let record = self.records.get(number)?;
+        record.right.of(&self.items).get(k).copied()
     }
 
     /// Whether the sentence of a number is that of a node and a left path.
     pub fn is_at(&self, number: usize, node: Node, left: &[Atom]) -> bool
         ensures { result ≡ of_pair (slice_get (kept_in self.now) number) node left.now }
     {
-        if number < self.records.len() {
-            self.record_is(self.records[number], node, left)
-        } else {
-            false
+        match self.records.get(number) {
+            Some(record) => node == record.node && left == record.left.of(&self.atoms),
+            None => false,
         }
     }
 
@@ -116,52 +96,48 @@ impl Kept {
     fn is_passed(&self, most: Room, atoms: usize, items: usize) -> bool
         ensures { result ≡ passes most (kept_in self.now) atoms items }
     {
-        if self.records.len() >= most.sentences {
-            return true;
-        }
-        if atoms > most.atoms {
-            return true;
-        }
-        if self.atoms.len() > most.atoms - atoms {
-            return true;
-        }
-        if items > most.items {
-            return true;
-        }
-        self.items.len() > most.items - items
+        is_over(self.records.len(), 1, most.sentences)
+            || is_over(self.atoms.len(), atoms, most.atoms)
+            || is_over(self.items.len(), items, most.items)
     }
 
     // Keeps one sentence more, for which there is memory.
     fn write(&mut self, node: Node, left: &[Atom], right: &[Item])
         requires { passes (room_in self.old) (kept_in self.old) (length left.now) (length right.now) ≡ false }
-        ensures kept { kept_in self.new ≡ kept_in self.old ++ sentence node left.now right.now ∷ [] }
-        ensures room { room_in self.new ≡ room_in self.old }
+        ensures { self.new ≡ with_sentences self.old (kept_in self.old ++ sentence node left.now right.now ∷ []) }
     {
-        let left_at = self.atoms.len();
-        let items_at = self.items.len();
         let record = Record {
             node,
-            left_at,
-            left_len: left.len(),
-            items_at,
-            items_len: right.len(),
+            left: Span {
+                start: self.atoms.len(),
+                len: left.len(),
+            },
+            right: Span {
+                start: self.items.len(),
+                len: right.len(),
+            },
         };
         let _ = self.atoms.extend_from_slice(left);
         let _ = self.items.extend_from_slice(right);
         self.records.push_reserved(record);
     }
 
-    /// Keeps one sentence more, and answers true, unless one of the limits given, or the memory, would be passed.
-    pub fn put(&mut self, most: Room, node: Node, left: &[Atom], right: &[Item]) -> bool
-        ensures gives { result ≡ not (passes (smaller most (room_in self.old)) (kept_in self.old) (length left.now) (length right.now)) }
-        ensures kept { kept_in self.new ≡ (if result then kept_in self.old ++ sentence node left.now right.now ∷ [] else kept_in self.old) }
-        ensures room { room_in self.new ≡ room_in self.old }
+    /// Keeps one sentence more, unless one of the limits given, or the memory, would be passed; then nothing is altered.
+    pub fn put(
+        &mut self,
+        most: Room,
+        node: Node,
+        left: &[Atom],
+        right: &[Item],
+    ) -> Result<(), Refusal>
+        ensures gives { result ≡ (if passes (smaller most (room_in self.old)) (kept_in self.old) (length left.now) (length right.now) then Err Refusal.Full else Ok tt) }
+        ensures keeps { self.new ≡ with_sentences self.old (if is_ok result then kept_in self.old ++ sentence node left.now right.now ∷ [] else kept_in self.old) }
     {
         let most = most.at_most(self.room);
         if self.is_passed(most, left.len(), right.len()) {
-            return false;
+            return Err(Refusal::Full);
         }
         self.write(node, left, right);
-        true
+        Ok(())
     }
 }

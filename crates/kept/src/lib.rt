@@ -1,41 +1,51 @@
 // What every keeper keeps: sentence records, and the atoms and items of which each record tells its part.
 #![tactic(auto)]
 
-ghost use Rattle.std.specs.Prelude.{◌≡◌, ◌<◌, ◌≤◌, length, vec_capacity};
-ghost use Rattle.stores.specs.Sentences.{atoms_in, items_in};
-ghost use Rattle.kept.specs.Parts.{sentences, Inside};
-
+use std::marker::Model;
 use terms::{Atom, Item, Node};
 
-#[derive(Clone, Copy)]
-pub struct Record {
-    pub node: Node,
-    pub left_at: usize,
-    pub left_len: usize,
-    pub items_at: usize,
-    pub items_len: usize,
+/// A part of a list: where it starts, and how long it is.
+#[derive(Clone, Copy, Debug, PartialEq, Eq)]
+struct Span {
+    start: usize,
+    len: usize,
+}
+
+#[derive(Clone, Copy, Debug, PartialEq, Eq)]
+struct Record {
+    node: Node,
+    left: Span,
+    right: Span,
 }
 
 /// So many sentences, atoms in left paths, and items.
-#[derive(Clone, Copy)]
+#[derive(Clone, Copy, Debug, PartialEq, Eq)]
 pub struct Room {
     pub sentences: usize,
     pub atoms: usize,
     pub items: usize,
 }
 
+/// Sentences in the order of their adding.
+// Kept: all memory is got at creation, so atoms and items stand one behind the other and not in lists of each sentence.
 #[derive(Drop)]
 pub struct Kept {
     room: Room,
     records: Vec<Record>,
     atoms: Vec<Atom>,
     items: Vec<Item>,
-    ghost records_room: { room.sentences ≤ vec_capacity records },
-    ghost atoms_room: { room.atoms ≤ vec_capacity atoms },
-    ghost items_room: { room.items ≤ vec_capacity items },
-    ghost inside: { Inside records.items (length atoms.items) (length items.items) },
-    ghost atoms_sum: { atoms_in (sentences records.items atoms.items items.items) ≡ length atoms.items },
-    ghost items_sum: { items_in (sentences records.items atoms.items items.items) ≡ length items.items },
+}
+
+impl Model for Kept {
+    ghost use Rattle.kept.specs.Contents.{Contents};
+
+    ghost Value = { Contents };
+
+    ghost use Rattle.kept.specs.Parts.{contents_of, Stored};
+
+    ghost view = { contents_of };
+
+    ghost invariant = { Stored };
 }
 
 pub mod keep;

@@ -1,5 +1,6 @@
 -- The bucket of a node and a left path.
-use Rattle.std.specs.Prelude.{ℕ, ◌+◌, ◌*◌, ◌/◌, ◌%◌, List, [], ◌∷◌, bit_and}
+use Rattle.std.specs.Prelude.{ℕ, ◌+◌, ◌*◌, ◌/◌, ◌%◌, List, bit_and}
+use Rattle.std.specs.List.{fold}
 use Rattle.terms.specs.declared.items.Node.{Node}
 use Rattle.terms.specs.declared.items.Atom.{Atom}
 use Rattle.stores.specs.Sentences.{Sentence}
@@ -8,8 +9,7 @@ abbrev pub mix : ℕ → ℕ → ℕ
 mix h k = ((h + k + 1) * 2654435769) % 2147483648
 
 abbrev pub mixed : ℕ → List Atom → ℕ
-mixed h [] = h
-mixed h (a ∷ l) = mixed (mix h a.0) l
+mixed h l = fold (λ k a. mix k a.0) h l
 
 -- the hash, of 31 bits
 abbrev pub hash_of_lem : Node → List Atom → ℕ

@@ -1,5 +1,6 @@
 // Finding by the table, and adding to it.
-ghost use Rattle.std.specs.Prelude.{◌≡◌, ◌+◌, ◌<◌, true, false, not, [], ◌∷◌, ◌++◌, length, is_some, IfOk, if◌then◌else◌, Some, None};
+ghost use Rattle.std.specs.Prelude.{◌≡◌, true, false, [], ◌∷◌, ◌++◌, length, is_some, is_ok, IfOk, Ok, Err, if◌then◌else◌, Some, None};
+ghost use Rattle.stores.specs.declared.refusals.Refusal.{Refusal as Refused};
 ghost use Rattle.terms.specs.LookUp.{look_up, length_found};
 ghost use Rattle.stores.specs.Items.{item_at, items_of};
 ghost use Rattle.stores.specs.Sentences.{map_of, is_pair, sentence};
@@ -14,26 +15,20 @@ use chains::Chains;
 use kept::{Kept, Room};
 use std::alloc::{AllocError, Global};
 use stores::Refusal;
-use stores::fitness::refused_anywhere;
+use stores::fitness::check_fitness;
 use terms::{Atom, Item, Node};
 
-fn mixed_with(hash: usize, number: u16) -> usize
-    requires { hash < 2147483648 }
-    ensures small { result < 2147483648 }
-    ensures is { result ≡ mix hash number }
+fn mixed_with(hash: u32, number: u16) -> u32
+    ensures { result ≡ mix hash number }
 {
-    ((hash + number as usize + 1) * 2_654_435_769) % 2_147_483_648
+    ((u64::from(hash) + u64::from(number) + 1) * 2_654_435_769 % 2_147_483_648) as u32
 }
 
 // The hash of a node and a left path.
-fn hash_of(node: Node, left: &[Atom]) -> usize
+fn hash_of(node: Node, left: &[Atom]) -> u32
     ensures { result ≡ hash_of_lem node left.now }
 {
-    let mut hash = mixed_with(0, node.0);
-    for a in left {
-        hash = mixed_with(hash, a.0);
-    }
-    hash
+    left.iter().fold(mixed_with(0, node.0), |hash, atom| mixed_with(hash, atom.0))
 }
 
 impl Listed {
@@ -54,36 +49,31 @@ impl Listed {
         self.chains.clear();
     }
 
-    fn bucket_of(&self, hash: usize) -> usize
+    fn bucket_of(&self, hash: u32) -> usize
         ensures { result ≡ bucket self.now.mask hash }
     {
-        (hash / 32768) & self.mask as usize
+        (hash / 32768) as usize & self.mask as usize
     }
 
     // The number of the sentence of a pair, by the pair's hash.
-    fn number_of(&self, hash: usize, node: Node, left: &[Atom]) -> Option<usize>
+    fn number_of(&self, hash: u32, node: Node, left: &[Atom]) -> Option<usize>
         requires { hash ≡ hash_of_lem node left.now }
         ensures { result ≡ first_by (is_pair node left.now) (held_in self.now) }
     {
-        let mut at = self.chains.last(self.bucket_of(hash));
-        while let Some(i) = at {
-            if self.kept.is_at(i, node, left) {
-                return Some(i);
-            }
-            at = self.chains.before(i);
-        }
-        None
+        self.chains.find(
+            self.bucket_of(hash),
+            |number| self.kept.is_at(number, node, left),
+        )
     }
 
     // A new length where a pair has a sentence, else the one so far.
-    fn better(&self, best: Option<usize>, hash: usize, node: Node, left: &[Atom]) -> Option<usize>
+    fn better(&self, best: Option<usize>, hash: u32, node: Node, left: &[Atom]) -> Option<usize>
         requires { hash ≡ hash_of_lem node left.now }
         ensures { result ≡ (if is_some (first_by (is_pair node left.now) (held_in self.now)) then Some (length left.now) else best) }
     {
-        match self.number_of(hash, node, left) {
-            None => best,
-            Some(_) => Some(left.len()),
-        }
+        self.number_of(hash, node, left)
+            .map(|_| left.len())
+            .or(best)
     }
 
     /// The length of the longest left path at the node with which the path begins.
@@ -91,10 +81,10 @@ impl Listed {
         ensures { result ≡ length_found (look_up (map_of (held_in self.now) node) path.now) }
     {
         let mut hash = mixed_with(0, node.0);
-        let mut best = self.better(None, hash, node, &path[0..0]);
-        for i in 0..path.len() {
-            hash = mixed_with(hash, path[i].0);
-            best = self.better(best, hash, node, &path[0..i + 1]);
+        let mut best = self.better(None, hash, node, &[]);
+        for (i, atom) in path.iter().enumerate() {
+            hash = mixed_with(hash, atom.0);
+            best = self.better(best, hash, node, &path[..=i]);
         }
         best
     }
@@ -103,10 +93,8 @@ impl Listed {
     pub fn item(&self, node: Node, left: &[Atom], k: usize) -> Option<Item>
         ensures { result ≡ item_at (items_of (map_of (held_in self.now) node left.now)) k }
     {
-        match self.number_of(hash_of(node, left), node, left) {
-            None => None,
-            Some(number) => self.kept.item_of(number, k),
-        }
+        let number = self.number_of(hash_of(node, left), node, left)?;
+        self.kept.item_of(number, k)
     }
 
     /// Whether a node and a left path have a sentence.
@@ -116,19 +104,17 @@ impl Listed {
         self.number_of(hash_of(node, left), node, left).is_some()
     }
 
-    // Keeps one sentence more, and answers true, unless one of the limits given would be passed.
-    fn put(&mut self, most: Room, node: Node, left: &[Atom], right: &[Item]) -> bool
+    // Keeps one sentence more, unless one of the limits given would be passed.
+    fn put(&mut self, most: Room, node: Node, left: &[Atom], right: &[Item]) -> Result<(), Refusal>
         requires fit { fits (sentence node left.now right.now) ≡ true }
         requires fresh { is_some (map_of (held_in self.old) node left.now) ≡ false }
-        ensures gives { result ≡ not (passes (smaller most (room_in self.old)) (held_in self.old) (length left.now) (length right.now)) }
-        ensures held { held_in self.new ≡ (if result then held_in self.old ++ sentence node left.now right.now ∷ [] else held_in self.old) }
+        ensures gives { result ≡ (if passes (smaller most (room_in self.old)) (held_in self.old) (length left.now) (length right.now) then Err Refused.Full else Ok tt) }
+        ensures held { held_in self.new ≡ (if is_ok result then held_in self.old ++ sentence node left.now right.now ∷ [] else held_in self.old) }
         ensures room { room_in self.new ≡ room_in self.old }
     {
         let bucket = self.bucket_of(hash_of(node, left));
-        if !self.kept.put(most, node, left, right) {
-            return false;
-        }
-        self.chains.push(bucket)
+        self.kept.put(most, node, left, right)?;
+        self.chains.push(bucket).map_err(|_| Refusal::Full)
     }
 
     /// Keeps one sentence more, unless it is refused. The limits are the smaller of those given and of those that memory is there for.
@@ -143,16 +129,10 @@ impl Listed {
         ensures held { held_in self.new ≡ kept_after (refusal (limits_of (smaller most (room_in self.old))) (held_in self.old) (sentence node left.now right.now)) (held_in self.old) (sentence node left.now right.now) }
         ensures room { room_in self.new ≡ room_in self.old }
     {
-        if let Some(refusal) = refused_anywhere(node, left, right) {
-            return Err(refusal);
-        }
+        check_fitness(node, left, right)?;
         if self.has(node, left) {
             return Err(Refusal::AlreadyKept);
         }
-        if self.put(most, node, left, right) {
-            Ok(())
-        } else {
-            Err(Refusal::Full)
-        }
+        self.put(most, node, left, right)
     }
 }

@@ -1,12 +1,13 @@
 -- The atoms of items.
-use Rattle.std.proofs.Common.{◌≡◌, ℕ, ◌+◌, ◌<◌, ◌≤◌, List, [], ◌∷◌, ◌++◌, length, get_or, drop, Some, None, Option, sym, refl, ap, ◌∙◌, append_assoc, append-nil}
+use Rattle.std.proofs.Common.{◌≡◌, ℕ, ◌+◌, ◌<◌, ◌≤◌, List, [], ◌∷◌, ◌++◌, length, get_or, drop, Some, None, Option, sym, refl, ap, ◌∙◌, append_assoc, append-nil, Ok, Err, Result}
 use Rattle.std.proofs.lemmas.List.{at_drop_more, at_drop_all}
 use Rattle.terms.specs.declared.items.Atom.{Atom}
 use Rattle.terms.specs.declared.items.Item.{Item}
 use Rattle.terms.specs.declared.items.Item.TheVariants as item
 use Rattle.terms.specs.Terms.{Terms, flat, done, atom, node, path}
 use Rattle.grammar.specs.Parsing.{more_atoms, atoms_of}
-use Rattle.loader.specs.Equations.{collected}
+use Rattle.loader.specs.declared.collecting.NotAnAtom.{NotAnAtom}
+use Rattle.loader.specs.Equations.{collected, Collects}
 
 -- what a read past the end would give
 abbrev pub blank : Item
@@ -49,3 +50,8 @@ module _ (is : List Item) (k : ℕ) (ls : List Atom) (all : Option (List Atom)) 
 
   pub no_more : length is ≤ k → all ≡ Some ls
   no_more h = inv ∙ ap (after ls) (at_drop_all collected is k h) ∙ ap Some (append-nil ls)
+
+-- items that are not collected are not all atoms
+pub not_collected : (is : List Item) (r : Result (Unit {0}) NotAnAtom) (ls : List Atom) → Collects is r ls → ((u : Unit {0}) → r ≡ Ok u → ⊥) → collected is ≡ None
+not_collected is (Ok u) ls c n = absurd (n u refl)
+not_collected is (Err e) ls c n = c

@@ -1,6 +1,6 @@
 -- The words between terms: those that begin and end sentences, equations and blocks.
-use Rattle.std.proofs.Common.{◌≡◌, ℕ, suc, ◌<◌, ◌≤◌, Bool, true, false, List, [], Some, None, Option, sym, refl, ap, ◌∙◌, arith}
-use Rattle.std.proofs.lemmas.Bool.{cond-true, cond-false, lt-ltb, le-ltb}
+use Rattle.std.proofs.Common.{◌≡◌, ℕ, suc, ◌≤◌, Bool, true, false, ltb, List, [], Some, None, Option, sym, refl, ap, ◌∙◌, arith, Ok, Err, Result}
+use Rattle.std.proofs.lemmas.Bool.{cond-true, cond-false, le-ltb}
 use Rattle.terms.specs.declared.items.Node.{Node}
 use Rattle.terms.specs.declared.items.Atom.{Atom}
 use Rattle.terms.specs.Terms.{Terms, done}
@@ -11,6 +11,7 @@ use Rattle.grammar.specs.Trees as T
 use Rattle.grammar.specs.Trees.{Block}
 use Rattle.grammar.specs.Parsing.{Stream, word, State, between, naming, body, begun, side, ready, closed, outside, Front, Head, Step, ends, step, depth, so_far, whole, atoms_of, next_left, accepted, refused}
 use Rattle.grammar.specs.Loading.{load, checked, numbered, late_refusal, kept_or}
+use Rattle.words.specs.declared.faults.WordRefusal.{WordRefusal}
 use Rattle.lookahead.specs.declared.word.Word.{Word}
 use Rattle.lookahead.specs.declared.word.Word.TheVariants as w
 use Rattle.lookahead.specs.Ahead.{cons, size, fault_number}
@@ -33,149 +34,124 @@ module _ (l : Limits) (s : ℕ) (v : T.Word) (R : Stream) (σ τ : State) (p : �
 
 -- ---- blocks
 module _ (l : Limits) (s : ℕ) (R : Stream) where
-  pub at_stop : (f : Front) → load l (cons s w.Stop R) (body f) ≡ load l R (between (whole f))
+  pub at_stop : (f : Front) → load l (cons s (Ok w.Stop) R) (body f) ≡ load l R (between (whole f))
   at_stop f = Runs.on l s T.Stop R (body f) (between (whole f)) refl (omega arith) refl
 
-  pub at_node : (bs : List Block) (n : Node) → n.0 < 1024 → load l (cons s (w.Node n) R) (between bs) ≡ load l R (naming bs n)
-  at_node bs n h = Runs.on l s (T.NodeName n) R (between bs) (naming bs n) refl (omega arith) (lt-ltb n.0 1024 h)
+  pub at_node : (bs : List Block) (n : Node) → ltb n.0 1024 ≡ true → load l (cons s (Ok (w.Node n)) R) (between bs) ≡ load l R (naming bs n)
+  at_node bs n h = Runs.on l s (T.NodeName n) R (between bs) (naming bs n) refl (omega arith) h
 
-  pub no_number : (bs : List Block) (n : Node) → 1024 ≤ n.0 → load l (cons s (w.Node n) R) (between bs) ≡ refused 10 s
-  no_number bs n h = Runs.no_number l s (T.NodeName n) R (between bs) (naming bs n) refl (omega arith) (le-ltb n.0 1024 h)
+  pub no_number : (bs : List Block) → load l (cons s (Ok w.UnnumberedNode) R) (between bs) ≡ refused 10 s
+  no_number bs = Runs.no_number l s (T.NodeName (record { 0 = 1024 })) R (between bs) (naming bs (record { 0 = 1024 })) refl (omega arith) refl
 
-  pub at_colon : (bs : List Block) (n : Node) → load l (cons s w.Colon R) (naming bs n) ≡ load l R (body (record { blocks = bs; name = n; equations = [] }))
+  pub at_colon : (bs : List Block) (n : Node) → load l (cons s (Ok w.Colon) R) (naming bs n) ≡ load l R (body (record { blocks = bs; name = n; equations = [] }))
   at_colon bs n = Runs.on l s T.Colon R (naming bs n) (body (record { blocks = bs; name = n; equations = [] })) refl (omega arith) refl
 
-  pub at_end : (bs : List Block) → load l (cons s w.End R) (between bs) ≡ accepted bs
+  pub at_end : (bs : List Block) → load l (cons s (Ok w.End) R) (between bs) ≡ accepted bs
   unfolding load
   at_end bs = refl
 
-  pub at_open : (h : Head) → load l (cons s w.Open R) (begun h) ≡ load l R (side h true ready outside done)
+  pub at_open : (h : Head) → load l (cons s (Ok w.Open) R) (begun h) ≡ load l R (side h true ready outside done)
   at_open h = Runs.on l s T.Open R (begun h) (side h true ready outside done) refl (omega arith) refl
 
-pub no_equation : (l : Limits) (f : Front) (s : ℕ) (k : Word) (R : Stream) → (k ≡ w.Less → ⊥) → (k ≡ w.Stop → ⊥) → load l (cons s k R) (body f) ≡ refused (fault_number k) s
+pub no_equation : (l : Limits) (f : Front) (s : ℕ) (k : Result Word WordRefusal) (R : Stream) → (k ≡ Ok w.Less → ⊥) → (k ≡ Ok w.Stop → ⊥) → load l (cons s k R) (body f) ≡ refused (fault_number k) s
 unfolding load
-no_equation l f s (w.Atom a) R e0 e1 = refl
-no_equation l f s (w.Node n) R e0 e1 = refl
-no_equation l f s w.Less R e0 e1 = absurd (e0 refl)
-no_equation l f s w.Greater R e0 e1 = refl
-no_equation l f s w.Quote R e0 e1 = refl
-no_equation l f s w.Colon R e0 e1 = refl
-no_equation l f s w.Equals R e0 e1 = refl
-no_equation l f s w.Stop R e0 e1 = absurd (e1 refl)
-no_equation l f s w.Open R e0 e1 = refl
-no_equation l f s w.Close R e0 e1 = refl
-no_equation l f s w.Stray R e0 e1 = refl
-no_equation l f s w.End R e0 e1 = refl
-no_equation l f s (w.Broken x) R e0 e1 = refl
+no_equation l f s (Ok (w.Atom a)) R e0 e1 = refl
+no_equation l f s (Ok w.UnnumberedAtom) R e0 e1 = refl
+no_equation l f s (Ok (w.Node n)) R e0 e1 = refl
+no_equation l f s (Ok w.UnnumberedNode) R e0 e1 = refl
+no_equation l f s (Ok w.Less) R e0 e1 = absurd (e0 refl)
+no_equation l f s (Ok w.Greater) R e0 e1 = refl
+no_equation l f s (Ok w.Quote) R e0 e1 = refl
+no_equation l f s (Ok w.Colon) R e0 e1 = refl
+no_equation l f s (Ok w.Equals) R e0 e1 = refl
+no_equation l f s (Ok w.Stop) R e0 e1 = absurd (e1 refl)
+no_equation l f s (Ok w.Open) R e0 e1 = refl
+no_equation l f s (Ok w.Close) R e0 e1 = refl
+no_equation l f s (Ok w.Stray) R e0 e1 = refl
+no_equation l f s (Ok w.End) R e0 e1 = refl
+no_equation l f s (Err x) R e0 e1 = refl
 
-pub no_block : (l : Limits) (bs : List Block) (s : ℕ) (k : Word) (R : Stream) → ((n : Node) → k ≡ w.Node n → ⊥) → (k ≡ w.End → ⊥) → load l (cons s k R) (between bs) ≡ refused (fault_number k) s
+pub no_block : (l : Limits) (bs : List Block) (s : ℕ) (k : Result Word WordRefusal) (R : Stream) → ((n : Node) → k ≡ Ok (w.Node n) → ⊥) → (k ≡ Ok w.UnnumberedNode → ⊥) → (k ≡ Ok w.End → ⊥) → load l (cons s k R) (between bs) ≡ refused (fault_number k) s
 unfolding load
-no_block l bs s (w.Atom a) R e0 e1 = refl
-no_block l bs s (w.Node n) R e0 e1 = absurd (e0 n refl)
-no_block l bs s w.Less R e0 e1 = refl
-no_block l bs s w.Greater R e0 e1 = refl
-no_block l bs s w.Quote R e0 e1 = refl
-no_block l bs s w.Colon R e0 e1 = refl
-no_block l bs s w.Equals R e0 e1 = refl
-no_block l bs s w.Stop R e0 e1 = refl
-no_block l bs s w.Open R e0 e1 = refl
-no_block l bs s w.Close R e0 e1 = refl
-no_block l bs s w.Stray R e0 e1 = refl
-no_block l bs s w.End R e0 e1 = absurd (e1 refl)
-no_block l bs s (w.Broken x) R e0 e1 = refl
+no_block l bs s (Ok (w.Atom a)) R e0 e2 e1 = refl
+no_block l bs s (Ok w.UnnumberedAtom) R e0 e2 e1 = refl
+no_block l bs s (Ok (w.Node n)) R e0 e2 e1 = absurd (e0 n refl)
+no_block l bs s (Ok w.UnnumberedNode) R e0 e2 e1 = absurd (e2 refl)
+no_block l bs s (Ok w.Less) R e0 e2 e1 = refl
+no_block l bs s (Ok w.Greater) R e0 e2 e1 = refl
+no_block l bs s (Ok w.Quote) R e0 e2 e1 = refl
+no_block l bs s (Ok w.Colon) R e0 e2 e1 = refl
+no_block l bs s (Ok w.Equals) R e0 e2 e1 = refl
+no_block l bs s (Ok w.Stop) R e0 e2 e1 = refl
+no_block l bs s (Ok w.Open) R e0 e2 e1 = refl
+no_block l bs s (Ok w.Close) R e0 e2 e1 = refl
+no_block l bs s (Ok w.Stray) R e0 e2 e1 = refl
+no_block l bs s (Ok w.End) R e0 e2 e1 = absurd (e1 refl)
+no_block l bs s (Err x) R e0 e2 e1 = refl
 
-pub no_colon : (l : Limits) (bs : List Block) (n : Node) (s : ℕ) (k : Word) (R : Stream) → (k ≡ w.Colon → ⊥) → load l (cons s k R) (naming bs n) ≡ refused (fault_number k) s
+pub no_colon : (l : Limits) (bs : List Block) (n : Node) (s : ℕ) (k : Result Word WordRefusal) (R : Stream) → (k ≡ Ok w.Colon → ⊥) → load l (cons s k R) (naming bs n) ≡ refused (fault_number k) s
 unfolding load
-no_colon l bs n s (w.Atom a) R e = refl
-no_colon l bs n s (w.Node m) R e = refl
-no_colon l bs n s w.Less R e = refl
-no_colon l bs n s w.Greater R e = refl
-no_colon l bs n s w.Quote R e = refl
-no_colon l bs n s w.Colon R e = absurd (e refl)
-no_colon l bs n s w.Equals R e = refl
-no_colon l bs n s w.Stop R e = refl
-no_colon l bs n s w.Open R e = refl
-no_colon l bs n s w.Close R e = refl
-no_colon l bs n s w.Stray R e = refl
-no_colon l bs n s w.End R e = refl
-no_colon l bs n s (w.Broken x) R e = refl
+no_colon l bs n s (Ok (w.Atom a)) R e = refl
+no_colon l bs n s (Ok w.UnnumberedAtom) R e = refl
+no_colon l bs n s (Ok (w.Node m)) R e = refl
+no_colon l bs n s (Ok w.UnnumberedNode) R e = refl
+no_colon l bs n s (Ok w.Less) R e = refl
+no_colon l bs n s (Ok w.Greater) R e = refl
+no_colon l bs n s (Ok w.Quote) R e = refl
+no_colon l bs n s (Ok w.Colon) R e = absurd (e refl)
+no_colon l bs n s (Ok w.Equals) R e = refl
+no_colon l bs n s (Ok w.Stop) R e = refl
+no_colon l bs n s (Ok w.Open) R e = refl
+no_colon l bs n s (Ok w.Close) R e = refl
+no_colon l bs n s (Ok w.Stray) R e = refl
+no_colon l bs n s (Ok w.End) R e = refl
+no_colon l bs n s (Err x) R e = refl
 
 -- ---- right sides
-pub no_open : (l : Limits) (h : Head) (s : ℕ) (k : Word) (R : Stream) → (k ≡ w.Open → ⊥) → load l (cons s k R) (begun h) ≡ load l (cons s k R) (side h false ready outside done)
+pub no_open : (l : Limits) (h : Head) (s : ℕ) (k : Result Word WordRefusal) (R : Stream) → (k ≡ Ok w.Open → ⊥) → load l (cons s k R) (begun h) ≡ load l (cons s k R) (side h false ready outside done)
 unfolding load
-no_open l h s (w.Atom a) R e = refl
-no_open l h s (w.Node n) R e = refl
-no_open l h s w.Less R e = refl
-no_open l h s w.Greater R e = refl
-no_open l h s w.Quote R e = refl
-no_open l h s w.Colon R e = refl
-no_open l h s w.Equals R e = refl
-no_open l h s w.Stop R e = refl
-no_open l h s w.Open R e = absurd (e refl)
-no_open l h s w.Close R e = refl
-no_open l h s w.Stray R e = refl
-no_open l h s w.End R e = refl
-no_open l h s (w.Broken x) R e = refl
+no_open l h s (Ok (w.Atom a)) R e = refl
+no_open l h s (Ok w.UnnumberedAtom) R e = refl
+no_open l h s (Ok (w.Node n)) R e = refl
+no_open l h s (Ok w.UnnumberedNode) R e = refl
+no_open l h s (Ok w.Less) R e = refl
+no_open l h s (Ok w.Greater) R e = refl
+no_open l h s (Ok w.Quote) R e = refl
+no_open l h s (Ok w.Colon) R e = refl
+no_open l h s (Ok w.Equals) R e = refl
+no_open l h s (Ok w.Stop) R e = refl
+no_open l h s (Ok w.Open) R e = absurd (e refl)
+no_open l h s (Ok w.Close) R e = refl
+no_open l h s (Ok w.Stray) R e = refl
+no_open l h s (Ok w.End) R e = refl
+no_open l h s (Err x) R e = refl
 
 -- the word that ends the terms of a right side, with ( ) and without
-abbrev pub side_end : Bool → Word
-side_end true = w.Close
-side_end false = w.Stop
+abbrev pub side_end : Bool → Result Word WordRefusal
+side_end true = (Ok w.Close)
+side_end false = (Ok w.Stop)
 
-pub no_side_end : (l : Limits) (h : Head) (r : Bool) (t : Terms) (s : ℕ) (k : Word) (R : Stream) → starts k ≡ false → (k ≡ side_end r → ⊥) → load l (cons s k R) (side h r ready outside t) ≡ refused (fault_number k) s
+pub no_side_end : (l : Limits) (h : Head) (r : Bool) (t : Terms) (s : ℕ) (k : Result Word WordRefusal) (R : Stream) → starts k ≡ false → (k ≡ side_end r → ⊥) → load l (cons s k R) (side h r ready outside t) ≡ refused (fault_number k) s
 unfolding load
-no_side_end l h r t s (w.Atom a) R e0 e1 = absurd (grind arith)
-no_side_end l h r t s (w.Node n) R e0 e1 = absurd (grind arith)
-no_side_end l h r t s w.Less R e0 e1 = absurd (grind arith)
-no_side_end l h r t s w.Greater R e0 e1 = refl
-no_side_end l h r t s w.Quote R e0 e1 = absurd (grind arith)
-no_side_end l h r t s w.Colon R e0 e1 = refl
-no_side_end l h r t s w.Equals R e0 e1 = refl
-no_side_end l h true t s w.Stop R e0 e1 = refl
-no_side_end l h false t s w.Stop R e0 e1 = absurd (e1 refl)
-no_side_end l h r t s w.Open R e0 e1 = refl
-no_side_end l h true t s w.Close R e0 e1 = absurd (e1 refl)
-no_side_end l h false t s w.Close R e0 e1 = refl
-no_side_end l h r t s w.Stray R e0 e1 = refl
-no_side_end l h r t s w.End R e0 e1 = refl
-no_side_end l h r t s (w.Broken x) R e0 e1 = refl
+no_side_end l h r t s (Ok (w.Atom a)) R e0 e1 = absurd (grind arith)
+no_side_end l h r t s (Ok w.UnnumberedAtom) R e0 e1 = absurd (grind arith)
+no_side_end l h r t s (Ok (w.Node n)) R e0 e1 = absurd (grind arith)
+no_side_end l h r t s (Ok w.UnnumberedNode) R e0 e1 = absurd (grind arith)
+no_side_end l h r t s (Ok w.Less) R e0 e1 = absurd (grind arith)
+no_side_end l h r t s (Ok w.Greater) R e0 e1 = refl
+no_side_end l h r t s (Ok w.Quote) R e0 e1 = absurd (grind arith)
+no_side_end l h r t s (Ok w.Colon) R e0 e1 = refl
+no_side_end l h r t s (Ok w.Equals) R e0 e1 = refl
+no_side_end l h true t s (Ok w.Stop) R e0 e1 = refl
+no_side_end l h false t s (Ok w.Stop) R e0 e1 = absurd (e1 refl)
+no_side_end l h r t s (Ok w.Open) R e0 e1 = refl
+no_side_end l h true t s (Ok w.Close) R e0 e1 = absurd (e1 refl)
+no_side_end l h false t s (Ok w.Close) R e0 e1 = refl
+no_side_end l h r t s (Ok w.Stray) R e0 e1 = refl
+no_side_end l h r t s (Ok w.End) R e0 e1 = refl
+no_side_end l h r t s (Err x) R e0 e1 = refl
 
 -- a path with something else than atoms is no left path
-pub no_left : (l : Limits) (h : Head) (t : Terms) (p : ℕ) (i : Terms) (s : ℕ) (R : Stream) → atoms_of i ≡ None → load l (cons s w.Equals R) (side h false (closed p i) outside t) ≡ refused 4 s
+pub no_left : (l : Limits) (h : Head) (t : Terms) (p : ℕ) (i : Terms) (s : ℕ) (R : Stream) → atoms_of i ≡ None → load l (cons s (Ok w.Equals) R) (side h false (closed p i) outside t) ≡ refused 4 s
 unfolding load
 no_left l h t p i s R e = ap (λ (o : Option (List Atom)). checked l (so_far (side h false (closed p i) outside t)) s T.Is (next_left h t p o) (load l R)) e
-
--- one word fewer is left
-abbrev pub is_word : Word → Bool
-is_word (w.Atom a) = true
-is_word (w.Node n) = true
-is_word w.Less = true
-is_word w.Greater = true
-is_word w.Quote = true
-is_word w.Colon = true
-is_word w.Equals = true
-is_word w.Stop = true
-is_word w.Open = true
-is_word w.Close = true
-is_word w.Stray = true
-is_word w.End = false
-is_word (w.Broken r) = false
-
-pub one_word : (s : ℕ) (k v : Word) (R S : Stream) → k ≡ v → is_word v ≡ true → size S ≡ size R → size (cons s k R) ≡ suc (size S)
-unfolding size
-one_word s k v R S e c q = ap (λ (j : Word). size (cons s j R)) e ∙ counts v c ∙ ap suc (sym q)
-  where
-    counts : (v : Word) → is_word v ≡ true → size (cons s v R) ≡ suc (size R)
-    counts (w.Atom a) c = refl
-    counts (w.Node n) c = refl
-    counts w.Less c = refl
-    counts w.Greater c = refl
-    counts w.Quote c = refl
-    counts w.Colon c = refl
-    counts w.Equals c = refl
-    counts w.Stop c = refl
-    counts w.Open c = refl
-    counts w.Close c = refl
-    counts w.Stray c = refl
-    counts w.End c = absurd (grind arith)
-    counts (w.Broken r) c = absurd (grind arith)

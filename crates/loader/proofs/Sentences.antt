@@ -1,5 +1,5 @@
 -- Equations, sentences and blocks.
-use Rattle.std.proofs.Common.{◌≡◌, ℕ, suc, ◌+◌, ◌-◌, ◌<◌, ◌≤◌, Bool, true, false, List, [], ◌∷◌, ◌++◌, length, take, drop, Some, None, Ok, Err, Option, Result, sym, refl, ap, ◌∙◌, subst, append-nil, arith, length-append}
+use Rattle.std.proofs.Common.{◌≡◌, ℕ, suc, ◌+◌, ◌-◌, ◌≤◌, Bool, true, false, ltb, List, [], ◌∷◌, ◌++◌, length, take, drop, Some, None, Ok, Err, Option, Result, sym, refl, ap, ◌∙◌, subst, append-nil, arith, length-append}
 use Rattle.std.proofs.lemmas.Bool.{and_parts, and_from}
 use Rattle.terms.specs.declared.items.Node.{Node}
 use Rattle.terms.specs.declared.items.Atom.{Atom}
@@ -21,13 +21,13 @@ use Rattle.grammar.specs.Loading.{load, late_refusal}
 use Rattle.grammar.specs.Texts.{Names, rejected}
 use Rattle.grammar.proofs.Spelled.{more}
 use Rattle.grammar.proofs.Steps.{more_said, whole_said}
+use Rattle.words.specs.declared.faults.WordRefusal.{WordRefusal}
 use Rattle.lookahead.specs.declared.word.Word.{Word}
 use Rattle.lookahead.specs.declared.word.Word.TheVariants as w
 use Rattle.loader.specs.declared.ends.Due.{Due}
 use Rattle.loader.specs.declared.ends.Due.TheVariants.{Equation, RightSide}
 use Rattle.faults.specs.declared.kinds.GrammarFault.{GrammarFault}
-use Rattle.loader.specs.declared.ends.Ended.{Ended}
-use Rattle.loader.specs.declared.ends.Ended.TheVariants.{Here, NextEquation}
+use Rattle.loader.specs.declared.ends.NextEquation.{NextEquation}
 use Rattle.faults.specs.Grammar.{number, place}
 use Rattle.lookahead.specs.Ahead.{cons, gives, Moves, fault_number}
 use Rattle.loader.specs.Readings.{starts, ThroughSide, ThroughNext, GoesSide, Stops}
@@ -42,10 +42,10 @@ module _ (l : Limits) (n : Node) (kept : List Sentence) where
   pub left_read : (s : ℕ) (S S' : Stream) (F F' : Names) (left : List Atom) → ThroughLeft s S F S' F' left → Reaches l n S F body kept (Some (RightSide s)) S' F' left kept
   left_read s S S' F F' left y = record { in_range = y.in_range; comes = λ f i. record { front = f; is = i; comes = y.comes l f } }
 
-  pub block_ends : (s : ℕ) (k : Word) (R S' : Stream) (F F' : Names) (left : List Atom) → k ≡ w.Stop → every atom_in_range left ≡ true → Moves R F S' F' → Reaches l n (cons s k R) F body kept None S' F' left kept
+  pub block_ends : (s : ℕ) (k : Result Word WordRefusal) (R S' : Stream) (F F' : Names) (left : List Atom) → k ≡ Ok w.Stop → every atom_in_range left ≡ true → Moves R F S' F' → Reaches l n (cons s k R) F body kept None S' F' left kept
   block_ends s k R S' F F' left e a m = record {
     in_range = a;
-    comes = λ f i. record { front = f; is = i; comes = ap (λ (k : Word). gives l (cons s k R) F (body f)) e ∙ with_names F (Marks.at_stop l s R f) ∙ m l (between (whole f)) };
+    comes = λ f i. record { front = f; is = i; comes = ap (λ (k : Result Word WordRefusal). gives l (cons s k R) F (body f)) e ∙ with_names F (Marks.at_stop l s R f) ∙ m l (between (whole f)) };
   }
 
 -- ---- a sentence that ends
@@ -79,10 +79,10 @@ module _ (n : Node) (left : List Atom) (t : Terms) (out : List Item) (is : out �
     side_refused true g e = Marks.refuses l s T.Close R (side (head p left f) true ready outside t) (state_at (due_behind true) left (with_equation (head p left f) true t)) p (sentence n left out) (said (head p left f) true t) kept refl (omega arith) refl (same_sentence f.name n left out t i.named is) i.says g e
     side_refused false g e = Marks.refuses l s T.Stop R (side (head p left f) false ready outside t) (state_at (due_behind false) left (with_equation (head p left f) false t)) p (sentence n left out) (said (head p left f) false t) kept refl (omega arith) refl (same_sentence f.name n left out t i.named is) i.says g e
 
-    next_kept : (q : ℕ) (j : Terms) (ls : List Atom) → atoms_of j ≡ Some ls → late_refusal l kept (sentence n left out) ≡ None → load l (cons s w.Equals R) (side (head p left f) false (closed q j) outside t) ≡ load l R (begun (head q ls (with_equation (head p left f) false t)))
+    next_kept : (q : ℕ) (j : Terms) (ls : List Atom) → atoms_of j ≡ Some ls → late_refusal l kept (sentence n left out) ≡ None → load l (cons s (Ok w.Equals) R) (side (head p left f) false (closed q j) outside t) ≡ load l R (begun (head q ls (with_equation (head p left f) false t)))
     next_kept q j ls a e = Marks.keeps l s T.Is R (side (head p left f) false (closed q j) outside t) (begun (head q ls (with_equation (head p left f) false t))) p (sentence n left out) (said (head p left f) false t) kept (ap (next_left (head p left f) t q) a) (omega arith) refl (same_sentence f.name n left out t i.named is) i.says e
 
-    next_refused : (q : ℕ) (j : Terms) (ls : List Atom) → atoms_of j ≡ Some ls → (g : Refusal) → late_refusal l kept (sentence n left out) ≡ Some g → load l (cons s w.Equals R) (side (head p left f) false (closed q j) outside t) ≡ Parsing.refused (stores.number g) p
+    next_refused : (q : ℕ) (j : Terms) (ls : List Atom) → atoms_of j ≡ Some ls → (g : Refusal) → late_refusal l kept (sentence n left out) ≡ Some g → load l (cons s (Ok w.Equals) R) (side (head p left f) false (closed q j) outside t) ≡ Parsing.refused (stores.number g) p
     next_refused q j ls a g e = Marks.refuses l s T.Is R (side (head p left f) false (closed q j) outside t) (begun (head q ls (with_equation (head p left f) false t))) p (sentence n left out) (said (head p left f) false t) kept (ap (next_left (head p left f) t q) a) (omega arith) refl (same_sentence f.name n left out t i.named is) i.says g e
 
 pub as_sentence : (n : Node) (a b : List Atom) (i j : List Item) → a ≡ b → i ≡ j → sentence n a i ≡ sentence n b j
@@ -91,15 +91,15 @@ as_sentence n a b i j p q = ap (λ (a : List Atom). sentence n a i) p ∙ ap (λ
 -- ---- the terms of a right side, up to the word that ends them
 
 -- how a right side ended
-pub ended_so : (r : Bool) (S S' : Stream) (F F' : Names) (out out' : List Item) (k : Word) (o o' : Ended) → o ≡ o' → GoesSide r S F out (Ok o) S' F' out' → Stops r (Ok o) k → GoesSide r S F out (Ok o') S' F' out' × Stops r (Ok o') k
-ended_so r S S' F F' out out' k o o' e x s = let P : Ended → Type 0 = λ o. GoesSide r S F out (Ok o) S' F' out' × Stops r (Ok o) k in subst P e (x, s)
+pub ended_so : (r : Bool) (S S' : Stream) (F F' : Names) (out out' : List Item) (k : Result Word WordRefusal) (o o' : Option NextEquation) → o ≡ o' → GoesSide r S F out (Ok o) S' F' out' → Stops r (Ok o) k → GoesSide r S F out (Ok o') S' F' out' × Stops r (Ok o') k
+ended_so r S S' F F' out out' k o o' e x s = let P : Option NextEquation → Type 0 = λ o. GoesSide r S F out (Ok o) S' F' out' × Stops r (Ok o) k in subst P e (x, s)
 
 -- within ( ) no path begins the next equation
-pub round_side_lem : (S S' : Stream) (F F' : Names) (out out' : List Item) (k : Word) (o : Ended) → GoesSide true S F out (Ok o) S' F' out' → Stops true (Ok o) k → ThroughSide true S F out S' F' out' × (starts k ≡ false)
-round_side_lem S S' F F' out out' k Here x e = (x, e)
-round_side_lem S S' F F' out out' k (NextEquation m p) x e = absurd (grind arith)
+pub round_side_lem : (S S' : Stream) (F F' : Names) (out out' : List Item) (k : Result Word WordRefusal) (o : Option NextEquation) → GoesSide true S F out (Ok o) S' F' out' → Stops true (Ok o) k → ThroughSide true S F out S' F' out' × (starts k ≡ false)
+round_side_lem S S' F F' out out' k None x e = (x, e)
+round_side_lem S S' F F' out out' k (Some n) x e = absurd (grind arith)
 
-module _ (r : Bool) (S R : Stream) (F F₁ : Names) (s : ℕ) (k : Word) (out₀ out : List Item) (none : out₀ ≡ []) (x : ThroughSide r S F out₀ (cons s k R) F₁ out) where
+module _ (r : Bool) (S R : Stream) (F F₁ : Names) (s : ℕ) (k : Result Word WordRefusal) (out₀ out : List Item) (none : out₀ ≡ []) (x : ThroughSide r S F out₀ (cons s k R) F₁ out) where
   pub side_flat : out ≡ flat x.terms
   side_flat = x.items ∙ ap (λ (o : List Item). o ++ flat x.terms) none
 
@@ -110,14 +110,14 @@ module _ (r : Bool) (S R : Stream) (F F₁ : Names) (s : ℕ) (k : Word) (out₀
       comes = λ f i. record {
         front = with_equation (head p left f) r x.terms;
         is = one_more n left x.terms out side_flat kept kept' p r f i (g ∙ ap (λ (y : Sentence). kept ++ y ∷ []) z);
-        comes = x.comes l (head p left f) ∙ ap (λ (k : Word). gives l (cons s k R) F₁ (side (head p left f) r ready outside x.terms)) e
+        comes = x.comes l (head p left f) ∙ ap (λ (k : Result Word WordRefusal). gives l (cons s k R) F₁ (side (head p left f) r ready outside x.terms)) e
             ∙ with_names F₁ (side_kept n left x.terms out side_flat l kept p s R f i r (sym (ap (late_refusal l kept) z) ∙ q)) ∙ m l _;
       };
     }
 
     pub side_ends_refused : k ≡ Marks.side_end r → (y : Sentence) → y ≡ sentence n left out → (g : Refusal) → late_refusal l kept y ≡ Some g → (e : GrammarFault) → number e ≡ stores.number g → place e ≡ p → (f : Front) → IsFront n kept f → gives l S F (at_side r p left f) ≡ rejected (number e) (place e)
     side_ends_refused q y z g h e a b f i =
-        x.comes l (head p left f) ∙ ap (λ (k : Word). gives l (cons s k R) F₁ (side (head p left f) r ready outside x.terms)) q
+        x.comes l (head p left f) ∙ ap (λ (k : Result Word WordRefusal). gives l (cons s k R) F₁ (side (head p left f) r ready outside x.terms)) q
         ∙ by_number l _ F₁ _ _ _ e (side_refused n left x.terms out side_flat l kept p s R f i r g (sym (ap (late_refusal l kept) z) ∙ h)) a b
 
     pub side_bad : starts k ≡ false → (k ≡ Marks.side_end r → ⊥) → (e : GrammarFault) → number e ≡ fault_number k → place e ≡ s → (f : Front) → IsFront n kept f → gives l S F (at_side r p left f) ≡ rejected (number e) (place e)
@@ -171,9 +171,9 @@ collected_in_range (item.Node q m ∷ is) ls e r = absurd (grind arith)
 collected_in_range (item.Open q m ∷ is) ls e r = absurd (grind arith)
 collected_in_range (item.Close ∷ is) ls e r = absurd (grind arith)
 
-module _ (S R : Stream) (F F₁ : Names) (s m q : ℕ) (k : Word) (out₀ out : List Item) (x : ThroughNext false S F out₀ m q (cons s k R) F₁ out) (is : k ≡ w.Equals) (l : Limits) (n : Node) (kept : List Sentence) (p : ℕ) (left : List Atom) where
-  to_equals : (f : Front) → gives l S F (at_side false p left f) ≡ gives l (cons s w.Equals R) F₁ (side (head p left f) false (closed q x.inside) outside x.terms)
-  to_equals f = x.comes l (head p left f) ∙ ap (λ (k : Word). gives l (cons s k R) F₁ (side (head p left f) false (closed q x.inside) outside x.terms)) is
+module _ (S R : Stream) (F F₁ : Names) (s m q : ℕ) (k : Result Word WordRefusal) (out₀ out : List Item) (x : ThroughNext false S F out₀ m q (cons s k R) F₁ out) (is : k ≡ Ok w.Equals) (l : Limits) (n : Node) (kept : List Sentence) (p : ℕ) (left : List Atom) where
+  to_equals : (f : Front) → gives l S F (at_side false p left f) ≡ gives l (cons s (Ok w.Equals) R) F₁ (side (head p left f) false (closed q x.inside) outside x.terms)
+  to_equals f = x.comes l (head p left f) ∙ ap (λ (k : Result Word WordRefusal). gives l (cons s k R) F₁ (side (head p left f) false (closed q x.inside) outside x.terms)) is
 
   module _ (right : List Item) (e : right ≡ flat x.terms) (left' : List Atom) (c : collected (flat x.inside) ≡ Some left') (y : Sentence) (z : y ≡ sentence n left right) where
     only_atoms : atoms_of x.inside ≡ Some left'
@@ -205,13 +205,13 @@ module _ (l : Limits) (n : Node) (σ τ : Front → State) (S S₁ : Stream) (F 
 pub due_equation : (l : Limits) (S : Stream) (F : Names) (left : List Atom) (due : Due) → due ≡ Equation → (f : Front) → gives l S F (state_at (Some due) left f) ≡ gives l S F (body f)
 due_equation l S F left due e f = ap (λ (d : Due). gives l S F (state_at (Some d) left f)) e
 
-module _ (l : Limits) (left : List Atom) (due : Due) (p : ℕ) (is : due ≡ RightSide p) (s : ℕ) (k : Word) (R : Stream) (F : Names) where
-  pub due_round : k ≡ w.Open → (S₁ : Stream) (F₁ : Names) → Moves R F S₁ F₁ → (f : Front) → gives l (cons s k R) F (state_at (Some due) left f) ≡ gives l S₁ F₁ (at_side true p left f)
+module _ (l : Limits) (left : List Atom) (due : Due) (p : ℕ) (is : due ≡ RightSide p) (s : ℕ) (k : Result Word WordRefusal) (R : Stream) (F : Names) where
+  pub due_round : k ≡ Ok w.Open → (S₁ : Stream) (F₁ : Names) → Moves R F S₁ F₁ → (f : Front) → gives l (cons s k R) F (state_at (Some due) left f) ≡ gives l S₁ F₁ (at_side true p left f)
   due_round o S₁ F₁ m f =
-      ap (λ (d : Due). gives l (cons s k R) F (state_at (Some d) left f)) is ∙ ap (λ (k : Word). gives l (cons s k R) F (begun (head p left f))) o
+      ap (λ (d : Due). gives l (cons s k R) F (state_at (Some d) left f)) is ∙ ap (λ (k : Result Word WordRefusal). gives l (cons s k R) F (begun (head p left f))) o
       ∙ with_names F (Marks.at_open l s R (head p left f)) ∙ m l (at_side true p left f)
 
-  pub due_bare : (k ≡ w.Open → ⊥) → (f : Front) → gives l (cons s k R) F (state_at (Some due) left f) ≡ gives l (cons s k R) F (at_side false p left f)
+  pub due_bare : (k ≡ Ok w.Open → ⊥) → (f : Front) → gives l (cons s k R) F (state_at (Some due) left f) ≡ gives l (cons s k R) F (at_side false p left f)
   due_bare o f = ap (λ (d : Due). gives l (cons s k R) F (state_at (Some d) left f)) is ∙ with_names F (Marks.no_open l (head p left f) s k R o)
 
 pub nothing_yet : (l : Limits) (n : Node) (S : Stream) (F : Names) (kept : List Sentence) (left : List Atom) → left ≡ [] → Reaches l n S F body kept (Some Equation) S F left kept
@@ -237,20 +237,17 @@ opened bs n = record { blocks = bs; name = n; equations = [] }
 opened_says : (bs : List Block) (n : Node) (kept : List Sentence) → sentences bs ≡ kept → IsFront n kept (opened bs n)
 opened_says bs n kept e = record { named = refl; says = append-nil (sentences bs) ∙ e }
 
-module _ (l : Limits) (n : Node) (s : ℕ) (k : Word) (R : Stream) (F : Names) (is : k ≡ w.Node n) where
-  named : n.0 < 1024 → (S₁ : Stream) (F₁ : Names) → Moves R F S₁ F₁ → (bs : List Block) → gives l (cons s k R) F (between bs) ≡ gives l S₁ F₁ (naming bs n)
-  named h S₁ F₁ m bs = ap (λ (k : Word). gives l (cons s k R) F (between bs)) is ∙ with_names F (Marks.at_node l s R bs n h) ∙ m l (naming bs n)
+module _ (l : Limits) (n : Node) (s : ℕ) (k : Result Word WordRefusal) (R : Stream) (F : Names) (is : k ≡ Ok (w.Node n)) where
+  named : ltb n.0 1024 ≡ true → (S₁ : Stream) (F₁ : Names) → Moves R F S₁ F₁ → (bs : List Block) → gives l (cons s k R) F (between bs) ≡ gives l S₁ F₁ (naming bs n)
+  named h S₁ F₁ m bs = ap (λ (k : Result Word WordRefusal). gives l (cons s k R) F (between bs)) is ∙ with_names F (Marks.at_node l s R bs n h) ∙ m l (naming bs n)
 
-  pub unnumbered : 1024 ≤ n.0 → (e : GrammarFault) → number e ≡ 10 → place e ≡ s → (bs : List Block) → gives l (cons s k R) F (between bs) ≡ rejected (number e) (place e)
-  unnumbered h e a b bs = ap (λ (k : Word). gives l (cons s k R) F (between bs)) is ∙ by_number l _ F _ _ _ e (Marks.no_number l s R bs n h) a b
-
-  module _ (h : n.0 < 1024) (s₁ : ℕ) (k₁ : Word) (R₁ : Stream) (F₁ : Names) (m : Moves R F (cons s₁ k₁ R₁) F₁) where
-    pub no_colon : (k₁ ≡ w.Colon → ⊥) → (e : GrammarFault) → number e ≡ fault_number k₁ → place e ≡ s₁ → (bs : List Block) → gives l (cons s k R) F (between bs) ≡ rejected (number e) (place e)
+  module _ (h : ltb n.0 1024 ≡ true) (s₁ : ℕ) (k₁ : Result Word WordRefusal) (R₁ : Stream) (F₁ : Names) (m : Moves R F (cons s₁ k₁ R₁) F₁) where
+    pub no_colon : (k₁ ≡ Ok w.Colon → ⊥) → (e : GrammarFault) → number e ≡ fault_number k₁ → place e ≡ s₁ → (bs : List Block) → gives l (cons s k R) F (between bs) ≡ rejected (number e) (place e)
     no_colon c e a b bs = named h _ F₁ m bs ∙ by_number l _ F₁ _ _ _ e (Marks.no_colon l bs n s₁ k₁ R₁ c) a b
 
-    module _ (c : k₁ ≡ w.Colon) (S₂ : Stream) (F₂ : Names) (m₂ : Moves R₁ F₁ S₂ F₂) (kept : List Sentence) where
+    module _ (c : k₁ ≡ Ok w.Colon) (S₂ : Stream) (F₂ : Names) (m₂ : Moves R₁ F₁ S₂ F₂) (kept : List Sentence) where
       begins : (bs : List Block) → gives l (cons s k R) F (between bs) ≡ gives l S₂ F₂ (body (opened bs n))
-      begins bs = named h _ F₁ m bs ∙ ap (λ (k : Word). gives l (cons s₁ k R₁) F₁ (naming bs n)) c ∙ with_names F₁ (Marks.at_colon l s₁ R₁ bs n) ∙ m₂ l (body (opened bs n))
+      begins bs = named h _ F₁ m bs ∙ ap (λ (k : Result Word WordRefusal). gives l (cons s₁ k R₁) F₁ (naming bs n)) c ∙ with_names F₁ (Marks.at_colon l s₁ R₁ bs n) ∙ m₂ l (body (opened bs n))
 
       pub block_read : (next : Option Due) → next ≡ None → (S₃ : Stream) (F₃ : Names) (left : List Atom) (kept' : List Sentence) → Reaches l n S₂ F₂ body kept next S₃ F₃ left kept' → (bs : List Block) → sentences bs ≡ kept → ThroughBlock l (cons s k R) F bs S₃ F₃ kept'
       block_read next e S₃ F₃ left kept' x bs q =

@@ -1,5 +1,5 @@
 -- Whole texts.
-use Rattle.std.proofs.Common.{◌≡◌, ℕ, ◌<◌, ◌≤◌, Bool, true, false, ltb, List, [], length, take, is_ok, Ok, Err, sym, refl, ap, ◌∙◌, arith}
+use Rattle.std.proofs.Common.{◌≡◌, ℕ, ◌<◌, ◌≤◌, Bool, true, false, ltb, List, [], length, take, is_ok, Ok, Err, sym, refl, ap, ◌∙◌, arith, Result}
 use lib.Seq.{take-length}
 use Rattle.std.proofs.lemmas.List.{take-append-le}
 use Rattle.std.proofs.lemmas.Bool.{cond-true, cond-false, ltb-true, ltb-false, lt-ltb, le-ltb}
@@ -17,6 +17,7 @@ use Rattle.grammar.proofs.Complete.{single}
 use Rattle.grammar.proofs.Loads.{four}
 use Rattle.grammar.proofs.Misplaced.{misplaced}
 use Rattle.grammar.proofs.Naming.{names_are_numbered_as_met, kept_exactly_if_a_theory_is_spelt, four_is_at_the_first_misplaced_word}
+use Rattle.words.specs.declared.faults.WordRefusal.{WordRefusal}
 use Rattle.lookahead.specs.declared.word.Word.{Word}
 use Rattle.lookahead.specs.declared.word.Word.TheVariants as w
 use Rattle.faults.specs.declared.kinds.GrammarFault.{GrammarFault}
@@ -47,14 +48,17 @@ module _ (l : Limits) (S : Stream) (F : Names) where
     pub block_bad : (e : GrammarFault) → ((bs : List Block) → sentences bs ≡ kept₁ → gives l S₁ F₁ (between bs) ≡ rejected (rest.number e) (rest.place e)) → gives l S F (between []) ≡ rejected (rest.number e) (rest.place e)
     block_bad e y = x.comes ∙ y x.blocks x.says
 
-  module _ (s : ℕ) (k : Word) (R : Stream) (F₁ : Names) (kept₁ : List Sentence) (x : ThroughBlock l S F [] (cons s k R) F₁ kept₁) where
-    pub text_ends : k ≡ w.End → (ns : Names) → F₁ ≡ ns → gives l S F (between []) ≡ texts.kept kept₁ ns
+  module _ (s : ℕ) (k : Result Word WordRefusal) (R : Stream) (F₁ : Names) (kept₁ : List Sentence) (x : ThroughBlock l S F [] (cons s k R) F₁ kept₁) where
+    pub text_ends : k ≡ Ok w.End → (ns : Names) → F₁ ≡ ns → gives l S F (between []) ≡ texts.kept kept₁ ns
     text_ends e ns n =
-        x.comes ∙ ap (λ (k : Word). gives l (cons s k R) F₁ (between x.blocks)) e ∙ with_names F₁ (Marks.at_end l s R x.blocks)
+        x.comes ∙ ap (λ (k : Result Word WordRefusal). gives l (cons s k R) F₁ (between x.blocks)) e ∙ with_names F₁ (Marks.at_end l s R x.blocks)
         ∙ ap (λ (ss : List Sentence). texts.kept ss F₁) x.says ∙ ap (texts.kept kept₁) n
 
-    pub text_bad : ((n : Node) → k ≡ w.Node n → ⊥) → (k ≡ w.End → ⊥) → (e : GrammarFault) → rest.number e ≡ fault_number k → rest.place e ≡ s → gives l S F (between []) ≡ rejected (rest.number e) (rest.place e)
-    text_bad a b e c d = x.comes ∙ by_number l _ F₁ _ _ _ e (Marks.no_block l x.blocks s k R a b) c d
+    pub text_bad : ((n : Node) → k ≡ Ok (w.Node n) → ⊥) → (k ≡ Ok w.UnnumberedNode → ⊥) → (k ≡ Ok w.End → ⊥) → (e : GrammarFault) → rest.number e ≡ fault_number k → rest.place e ≡ s → gives l S F (between []) ≡ rejected (rest.number e) (rest.place e)
+    text_bad a u b e c d = x.comes ∙ by_number l _ F₁ _ _ _ e (Marks.no_block l x.blocks s k R a u b) c d
+
+    pub unnumbered : k ≡ Ok w.UnnumberedNode → (e : GrammarFault) → rest.number e ≡ 10 → rest.place e ≡ s → gives l S F (between []) ≡ rejected (rest.number e) (rest.place e)
+    unnumbered q e a b = x.comes ∙ ap (λ (k : Result Word WordRefusal). gives l (cons s k R) F₁ (between x.blocks)) q ∙ by_number l _ F₁ _ _ _ e (Marks.no_number l s R x.blocks) a b
 
 -- at the text's end all names are met
 no_names : (ns : Names) (W : Words) → none W ≡ true → all_names ns W ≡ ns
@@ -63,8 +67,8 @@ no_names ns (end_at s) e = refl
 no_names ns (fault_at r s) e = absurd (grind arith)
 no_names ns (Words.word s t k more) e = absurd (grind arith)
 
-pub all_met : (ns : Names) (p : Parser) → p.word ≡ w.End → final ns p ≡ ns
-all_met ns p e = no_names ns (behind_ahead p) (sym (ap (λ (k : Word). nothing_behind k (behind_ahead p)) e) ∙ p.ended)
+pub all_met : (ns : Names) (p : Parser) → p.word ≡ Ok w.End → final ns p ≡ ns
+all_met ns p e = no_names ns (behind_ahead p) (sym (ap (λ (k : Result Word WordRefusal). nothing_behind k (behind_ahead p)) e) ∙ p.ended)
 
 -- ---- the load of a text
 pub too_long : (l : Limits) (ns : Names) (text : List ℕ) → text_limit < length text → load_text l ns text ≡ rejected 11 text_limit

@@ -12,12 +12,13 @@ use Rattle.stores.specs.Refusals.{Limits}
 use Rattle.grammar.specs.Parsing.{Stream, State, side, Phase, ready, coloned, quoting, Frames, within, Head, then, open_paths, Outcome, refused}
 use Rattle.grammar.specs.Loading.{load}
 use Rattle.grammar.specs.Texts.{Names, loaded_by, rejected}
+use Rattle.words.specs.declared.faults.WordRefusal.{WordRefusal}
 use Rattle.lookahead.specs.declared.word.Word.{Word}
 use Rattle.lookahead.specs.declared.word.Word.TheVariants as w
 use Rattle.faults.specs.declared.kinds.GrammarFault.{GrammarFault}
 use Rattle.faults.specs.Grammar.{number, place}
 use Rattle.lookahead.specs.Ahead.{cons, size, gives, Moves}
-use Rattle.loader.specs.Readings.{is_less_lem, is_colon_lem, is_quote_lem, is_greater, starts, entering, behind, Through, Goes, ThroughPath, GoesPath, GoesEnd}
+use Rattle.loader.specs.Readings.{is_less_lem, starts, entering, behind, Through, Goes, ThroughPath, GoesPath, GoesEnd}
 use Rattle.loader.proofs.Runs
 
 then_then : (t u v : Terms) → then (then t u) v ≡ then t (then u v)
@@ -119,32 +120,14 @@ plain_path_term left p S S₁ F F₁ out out₁ (Ok u) m x = record { terms = pa
 plain_path_term left p S S₁ F F₁ out out₁ (Err e) m x = x
 
 -- a path up to where its > has to stand
-pub path_inside : (left : ℕ) (q : Quoting) (n : Option Node) (s : ℕ) (k : Word) (R S₁ S₂ : Stream) (F F₁ F₂ : Names) (out₁ out₂ : List Item) → is_less_lem k ≡ true → 1 ≤ left → Moves R F S₁ F₁ → (x : Through (left - 1) ready S₁ F₁ out₁ S₂ F₂ out₂) → (l : Limits) (h : Head) (r : Bool) (f : Frames) (b : Terms) → open_paths f + left ≡ 4 → gives l (cons s k R) F (side h r (entering q n) f b) ≡ gives l S₂ F₂ (side h r ready (within s q n b f) x.terms)
+pub path_inside : (left : ℕ) (q : Quoting) (n : Option Node) (s : ℕ) (k : Result Word WordRefusal) (R S₁ S₂ : Stream) (F F₁ F₂ : Names) (out₁ out₂ : List Item) → is_less_lem k ≡ true → 1 ≤ left → Moves R F S₁ F₁ → (x : Through (left - 1) ready S₁ F₁ out₁ S₂ F₂ out₂) → (l : Limits) (h : Head) (r : Bool) (f : Frames) (b : Terms) → open_paths f + left ≡ 4 → gives l (cons s k R) F (side h r (entering q n) f b) ≡ gives l S₂ F₂ (side h r ready (within s q n b f) x.terms)
 path_inside left q n s k R S₁ S₂ F F₁ F₂ out₁ out₂ c m e x l h r f b d = with_names F (Runs.at_less l h r f b s k R q n c (omega arith)) ∙ e l (side h r ready (within s q n b f) done) ∙ x.comes l h r (within s q n b f) done (omega arith)
 
 pub path_items : (q : Quoting) (n : Option Node) (i : Terms) (out out₁ out₂ out₃ : List Item) → out₁ ≡ out ++ opening q n ∷ [] → out₂ ≡ out₁ ++ flat i → out₃ ≡ out₂ ++ close ∷ [] → out₃ ≡ out ++ flat (path q n i done)
 path_items q n i out out₁ out₂ out₃ a b c = c ∙ ap (λ (m : List Item). m ++ close ∷ []) (b ∙ ap (λ (m : List Item). m ++ flat i) a) ∙ simp (append_assoc, cons_items)
 
-pub one_less : (s : ℕ) (k : Word) (R S : Stream) → is_less_lem k ≡ true → size S ≡ size R → size (cons s k R) ≡ suc (size S)
-one_less s k R S c e = Runs.fewer_less s k R c ∙ ap suc (sym e)
-
-pub one_colon : (s : ℕ) (k : Word) (R S : Stream) → is_colon_lem k ≡ true → size S ≡ size R → size (cons s k R) ≡ suc (size S)
-one_colon s k R S c e = Runs.fewer_colon s k R c ∙ ap suc (sym e)
-
-pub one_quote : (s : ℕ) (k : Word) (R S : Stream) → is_quote_lem k ≡ true → size S ≡ size R → size (cons s k R) ≡ suc (size S)
-one_quote s k R S c e = Runs.fewer_quote s k R c ∙ ap suc (sym e)
-
-pub one_greater : (s : ℕ) (k : Word) (R S : Stream) → is_greater k ≡ true → size S ≡ size R → size (cons s k R) ≡ suc (size S)
-one_greater s k R S c e = Runs.fewer_greater s k R c ∙ ap suc (sym e)
-
-pub one_start : (s : ℕ) (k : Word) (R S : Stream) → starts k ≡ true → size S ≡ size R → size (cons s k R) ≡ suc (size S)
-one_start s k R S c e = Runs.fewer_start s k R c ∙ ap suc (sym e)
-
-pub one_node : (s : ℕ) (k : Word) (R S : Stream) (n : Node) → w.Node n ≡ k → size S ≡ size R → size (cons s k R) ≡ suc (size S)
-one_node s k R S n c e = Runs.fewer_node s k R n c ∙ ap suc (sym e)
-
 -- a path up to behind its >
-module _ (left : ℕ) (q : Quoting) (n : Option Node) (s : ℕ) (k : Word) (R S₁ : Stream) (F F₁ F₂ F₃ : Names) (out out₁ out₂ out₃ : List Item) (s₃ : ℕ) (k₃ : Word) (R₃ S₃ : Stream) (c : is_less_lem k ≡ true) (m : 1 ≤ left) (e : Moves R F S₁ F₁) (x : Through (left - 1) ready S₁ F₁ out₁ (cons s₃ k₃ R₃) F₂ out₂) (g : is_greater k₃ ≡ true) (e₃ : Moves R₃ F₂ S₃ F₃) (i₁ : out₁ ≡ out ++ opening q n ∷ []) (i₃ : out₃ ≡ out₂ ++ close ∷ []) (named : item_in_range (opening q n) ≡ true) where
+module _ (left : ℕ) (q : Quoting) (n : Option Node) (s : ℕ) (k : Result Word WordRefusal) (R S₁ : Stream) (F F₁ F₂ F₃ : Names) (out out₁ out₂ out₃ : List Item) (s₃ : ℕ) (k₃ : Result Word WordRefusal) (R₃ S₃ : Stream) (c : is_less_lem k ≡ true) (m : 1 ≤ left) (e : Moves R F S₁ F₁) (x : Through (left - 1) ready S₁ F₁ out₁ (cons s₃ k₃ R₃) F₂ out₂) (g : k₃ ≡ Ok w.Greater) (e₃ : Moves R₃ F₂ S₃ F₃) (i₁ : out₁ ≡ out ++ opening q n ∷ []) (i₃ : out₃ ≡ out₂ ++ close ∷ []) (named : item_in_range (opening q n) ≡ true) where
   to_close : (l : Limits) (h : Head) (r : Bool) (f : Frames) (b : Terms) → open_paths f + left ≡ 4 → gives l (cons s k R) F (side h r (entering q n) f b) ≡ gives l S₃ F₃ (Runs.closing l h r f b s₃ k₃ R₃ q n s x.terms)
   to_close l h r f b d = path_inside left q n s k R S₁ (cons s₃ k₃ R₃) F F₁ F₂ out₁ out₂ c m e x l h r f b d ∙ with_names F₂ (Runs.at_greater l h r f b s₃ k₃ R₃ q n s x.terms g (omega arith)) ∙ e₃ l _
 

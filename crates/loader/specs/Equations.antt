@@ -1,5 +1,5 @@
 -- What the readers of equations come to.
-use Rattle.std.specs.Prelude.{◌≡◌, ℕ, ◌≤◌, Bool, true, false, List, [], ◌∷◌, ◌++◌, Some, None, Ok, Err, Option, Result}
+use Rattle.std.specs.Prelude.{◌≡◌, ℕ, ◌≤◌, true, List, [], ◌∷◌, ◌++◌, Some, None, Ok, Err, Option, Result}
 use Rattle.terms.specs.declared.items.Atom.{Atom}
 use Rattle.terms.specs.declared.items.Item.{Item}
 use Rattle.terms.specs.declared.items.Item.TheVariants as item
@@ -16,6 +16,7 @@ use Rattle.grammar.specs.Loading.{late_refusal}
 use Rattle.grammar.specs.Texts.{Names, rejected}
 use Rattle.faults.specs.declared.kinds.GrammarFault.{GrammarFault}
 use Rattle.lookahead.specs.declared.parser.Parser.{Parser}
+use Rattle.loader.specs.declared.collecting.NotAnAtom.{NotAnAtom}
 use Rattle.faults.specs.Grammar.{number, place}
 use Rattle.lookahead.specs.Ahead.{names_of, rest, final, gives}
 
@@ -53,6 +54,6 @@ collected (item.Node q n ∷ is) = None
 collected (item.Open q n ∷ is) = None
 collected (item.Close ∷ is) = None
 
-abbrev pub Collects : List Item → Bool → List Atom → Type 0
-Collects is true ls = collected is ≡ Some ls
-Collects is false ls = collected is ≡ None
+abbrev pub Collects : List Item → Result (Unit {0}) NotAnAtom → List Atom → Type 0
+Collects is (Ok u) ls = collected is ≡ Some ls
+Collects is (Err e) ls = collected is ≡ None

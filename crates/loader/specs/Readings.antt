@@ -13,103 +13,115 @@ use Rattle.grammar.specs.Parsing.{Stream, State, side, Phase, ready, closed, col
 use Rattle.grammar.specs.Texts.{Names, rejected}
 use Rattle.faults.specs.declared.kinds.GrammarFault.{GrammarFault}
 use Rattle.faults.specs.Grammar.{number, place}
+use Rattle.words.specs.declared.faults.WordRefusal.{WordRefusal}
 use Rattle.lookahead.specs.declared.word.Word.{Word}
 use Rattle.lookahead.specs.declared.word.Word.TheVariants as w
 use Rattle.lookahead.specs.declared.parser.Parser.{Parser}
 use Rattle.lookahead.specs.Ahead.{names_of, rest, final, size, gives}
-use Rattle.loader.specs.declared.ends.Ended.{Ended}
-use Rattle.loader.specs.declared.ends.Ended.TheVariants.{Here, NextEquation}
+use Rattle.loader.specs.declared.ends.NextEquation.{NextEquation}
 
-abbrev pub is_less_lem : Word → Bool
-is_less_lem (w.Atom a) = false
-is_less_lem (w.Node n) = false
-is_less_lem w.Less = true
-is_less_lem w.Greater = false
-is_less_lem w.Quote = false
-is_less_lem w.Colon = false
-is_less_lem w.Equals = false
-is_less_lem w.Stop = false
-is_less_lem w.Open = false
-is_less_lem w.Close = false
-is_less_lem w.Stray = false
-is_less_lem w.End = false
-is_less_lem (w.Broken r) = false
+abbrev pub is_less_lem : Result Word WordRefusal → Bool
+is_less_lem (Ok (w.Atom a)) = false
+is_less_lem (Ok w.UnnumberedAtom) = false
+is_less_lem (Ok (w.Node n)) = false
+is_less_lem (Ok w.UnnumberedNode) = false
+is_less_lem (Ok w.Less) = true
+is_less_lem (Ok w.Greater) = false
+is_less_lem (Ok w.Quote) = false
+is_less_lem (Ok w.Colon) = false
+is_less_lem (Ok w.Equals) = false
+is_less_lem (Ok w.Stop) = false
+is_less_lem (Ok w.Open) = false
+is_less_lem (Ok w.Close) = false
+is_less_lem (Ok w.Stray) = false
+is_less_lem (Ok w.End) = false
+is_less_lem (Err r) = false
 
-abbrev pub is_colon_lem : Word → Bool
-is_colon_lem (w.Atom a) = false
-is_colon_lem (w.Node n) = false
-is_colon_lem w.Less = false
-is_colon_lem w.Greater = false
-is_colon_lem w.Quote = false
-is_colon_lem w.Colon = true
-is_colon_lem w.Equals = false
-is_colon_lem w.Stop = false
-is_colon_lem w.Open = false
-is_colon_lem w.Close = false
-is_colon_lem w.Stray = false
-is_colon_lem w.End = false
-is_colon_lem (w.Broken r) = false
+abbrev pub is_colon_lem : Result Word WordRefusal → Bool
+is_colon_lem (Ok (w.Atom a)) = false
+is_colon_lem (Ok w.UnnumberedAtom) = false
+is_colon_lem (Ok (w.Node n)) = false
+is_colon_lem (Ok w.UnnumberedNode) = false
+is_colon_lem (Ok w.Less) = false
+is_colon_lem (Ok w.Greater) = false
+is_colon_lem (Ok w.Quote) = false
+is_colon_lem (Ok w.Colon) = true
+is_colon_lem (Ok w.Equals) = false
+is_colon_lem (Ok w.Stop) = false
+is_colon_lem (Ok w.Open) = false
+is_colon_lem (Ok w.Close) = false
+is_colon_lem (Ok w.Stray) = false
+is_colon_lem (Ok w.End) = false
+is_colon_lem (Err r) = false
 
-abbrev pub is_quote_lem : Word → Bool
-is_quote_lem (w.Atom a) = false
-is_quote_lem (w.Node n) = false
-is_quote_lem w.Less = false
-is_quote_lem w.Greater = false
-is_quote_lem w.Quote = true
-is_quote_lem w.Colon = false
-is_quote_lem w.Equals = false
-is_quote_lem w.Stop = false
-is_quote_lem w.Open = false
-is_quote_lem w.Close = false
-is_quote_lem w.Stray = false
-is_quote_lem w.End = false
-is_quote_lem (w.Broken r) = false
+abbrev pub is_quote_lem : Result Word WordRefusal → Bool
+is_quote_lem (Ok (w.Atom a)) = false
+is_quote_lem (Ok w.UnnumberedAtom) = false
+is_quote_lem (Ok (w.Node n)) = false
+is_quote_lem (Ok w.UnnumberedNode) = false
+is_quote_lem (Ok w.Less) = false
+is_quote_lem (Ok w.Greater) = false
+is_quote_lem (Ok w.Quote) = true
+is_quote_lem (Ok w.Colon) = false
+is_quote_lem (Ok w.Equals) = false
+is_quote_lem (Ok w.Stop) = false
+is_quote_lem (Ok w.Open) = false
+is_quote_lem (Ok w.Close) = false
+is_quote_lem (Ok w.Stray) = false
+is_quote_lem (Ok w.End) = false
+is_quote_lem (Err r) = false
 
-abbrev pub is_greater : Word → Bool
-is_greater (w.Atom a) = false
-is_greater (w.Node n) = false
-is_greater w.Less = false
-is_greater w.Greater = true
-is_greater w.Quote = false
-is_greater w.Colon = false
-is_greater w.Equals = false
-is_greater w.Stop = false
-is_greater w.Open = false
-is_greater w.Close = false
-is_greater w.Stray = false
-is_greater w.End = false
-is_greater (w.Broken r) = false
+abbrev pub is_greater : Result Word WordRefusal → Bool
+is_greater (Ok (w.Atom a)) = false
+is_greater (Ok w.UnnumberedAtom) = false
+is_greater (Ok (w.Node n)) = false
+is_greater (Ok w.UnnumberedNode) = false
+is_greater (Ok w.Less) = false
+is_greater (Ok w.Greater) = true
+is_greater (Ok w.Quote) = false
+is_greater (Ok w.Colon) = false
+is_greater (Ok w.Equals) = false
+is_greater (Ok w.Stop) = false
+is_greater (Ok w.Open) = false
+is_greater (Ok w.Close) = false
+is_greater (Ok w.Stray) = false
+is_greater (Ok w.End) = false
+is_greater (Err r) = false
 
-abbrev pub is_equals_lem : Word → Bool
-is_equals_lem (w.Atom a) = false
-is_equals_lem (w.Node n) = false
-is_equals_lem w.Less = false
-is_equals_lem w.Greater = false
-is_equals_lem w.Quote = false
-is_equals_lem w.Colon = false
-is_equals_lem w.Equals = true
-is_equals_lem w.Stop = false
-is_equals_lem w.Open = false
-is_equals_lem w.Close = false
-is_equals_lem w.Stray = false
-is_equals_lem w.End = false
-is_equals_lem (w.Broken r) = false
+abbrev pub is_equals_lem : Result Word WordRefusal → Bool
+is_equals_lem (Ok (w.Atom a)) = false
+is_equals_lem (Ok w.UnnumberedAtom) = false
+is_equals_lem (Ok (w.Node n)) = false
+is_equals_lem (Ok w.UnnumberedNode) = false
+is_equals_lem (Ok w.Less) = false
+is_equals_lem (Ok w.Greater) = false
+is_equals_lem (Ok w.Quote) = false
+is_equals_lem (Ok w.Colon) = false
+is_equals_lem (Ok w.Equals) = true
+is_equals_lem (Ok w.Stop) = false
+is_equals_lem (Ok w.Open) = false
+is_equals_lem (Ok w.Close) = false
+is_equals_lem (Ok w.Stray) = false
+is_equals_lem (Ok w.End) = false
+is_equals_lem (Err r) = false
 
 -- a word with which a term begins
-abbrev pub starts : Word → Bool
-starts (w.Atom a) = true
-starts (w.Node n) = true
-starts w.Less = true
-starts w.Greater = false
-starts w.Quote = true
-starts w.Colon = false
-starts w.Equals = false
-starts w.Stop = false
-starts w.Open = false
-starts w.Close = false
-starts w.Stray = false
-starts w.End = false
-starts (w.Broken r) = false
+abbrev pub starts : Result Word WordRefusal → Bool
+starts (Ok (w.Atom a)) = true
+starts (Ok w.UnnumberedAtom) = true
+starts (Ok (w.Node n)) = true
+starts (Ok w.UnnumberedNode) = true
+starts (Ok w.Less) = true
+starts (Ok w.Greater) = false
+starts (Ok w.Quote) = true
+starts (Ok w.Colon) = false
+starts (Ok w.Equals) = false
+starts (Ok w.Stop) = false
+starts (Ok w.Open) = false
+starts (Ok w.Close) = false
+starts (Ok w.Stray) = false
+starts (Ok w.End) = false
+starts (Err r) = false
 
 -- Terms are read: whatever stood before, the load goes on behind them; their items are added.
 pub record Through (left : ℕ) (ph : Phase) (S : Stream) (F : Names) (out : List Item) (S' : Stream) (F' : Names) (out' : List Item) : Type 0 where
@@ -153,7 +165,7 @@ GoesEnd S F (Ok u) S' F' = (l : Limits) (h : Head) (r : Bool) (n : Option Node) 
 GoesEnd S F (Err e) S' F' = (l : Limits) (h : Head) (r : Bool) (n : Option Node) (i : Terms) (f : Frames) (b : Terms) → open_paths f ≤ nesting_limit → gives l S F (side h r (unquoting n i) f b) ≡ rejected (number e) (place e)
 
 -- the word begins the next equation, behind a path outside of ( )
-abbrev pub is_next : Bool → Word → Bool
+abbrev pub is_next : Bool → Result Word WordRefusal → Bool
 is_next true k = false
 is_next false k = is_equals_lem k
 
@@ -176,15 +188,15 @@ pub record ThroughNext (r : Bool) (S : Stream) (F : Names) (out : List Item) (m 
   pub inside_in_range : every item_in_range (flat (path plain None inside done)) ≡ true
   pub comes : (l : Limits) (h : Head) → gives l S F (side h r ready outside done) ≡ gives l S' F' (side h r (closed p inside) outside terms)
 
-abbrev pub GoesSide : Bool → Stream → Names → List Item → Result Ended GrammarFault → Stream → Names → List Item → Type 0
-GoesSide r S F out (Ok Here) S' F' out' = ThroughSide r S F out S' F' out'
-GoesSide r S F out (Ok (NextEquation m p)) S' F' out' = ThroughNext r S F out m p S' F' out'
+abbrev pub GoesSide : Bool → Stream → Names → List Item → Result (Option NextEquation) GrammarFault → Stream → Names → List Item → Type 0
+GoesSide r S F out (Ok None) S' F' out' = ThroughSide r S F out S' F' out'
+GoesSide r S F out (Ok (Some n)) S' F' out' = ThroughNext r S F out n.mark n.place S' F' out'
 GoesSide r S F out (Err e) S' F' out' = (l : Limits) (h : Head) → gives l S F (side h r ready outside done) ≡ rejected (number e) (place e)
 
 -- the word behind a right side: none that begins a term, or the == of the next equation
-abbrev pub Stops : Bool → Result Ended GrammarFault → Word → Type 0
-Stops r (Ok Here) k = starts k ≡ false
-Stops r (Ok (NextEquation m p)) k = is_next r k ≡ true
+abbrev pub Stops : Bool → Result (Option NextEquation) GrammarFault → Result Word WordRefusal → Type 0
+Stops r (Ok None) k = starts k ≡ false
+Stops r (Ok (Some n)) k = is_next r k ≡ true
 Stops r (Err e) k = Unit {0}
 
 -- The same of a parser and the names, before and after.
@@ -202,6 +214,6 @@ ReadsPath left q m n p out r n' p' out' =
 abbrev pub ReadsEnd : NameTables → Parser → Result (Unit {0}) GrammarFault → NameTables → Parser → Type 0
 ReadsEnd n p r n' p' = GoesEnd (rest (names_of n) p) (final (names_of n) p) r (rest (names_of n') p') (final (names_of n') p')
 
-abbrev pub ReadsSide : Bool → NameTables → Parser → List Item → Result Ended GrammarFault → NameTables → Parser → List Item → Type 0
+abbrev pub ReadsSide : Bool → NameTables → Parser → List Item → Result (Option NextEquation) GrammarFault → NameTables → Parser → List Item → Type 0
 ReadsSide b n p out r n' p' out' =
     GoesSide b (rest (names_of n) p) (final (names_of n) p) out r (rest (names_of n') p') (final (names_of n') p') out'

@@ -1,5 +1,5 @@
 // Blocks, by what is due in them: an equation's left path, its right side, or the full stop.
-ghost use Rattle.std.specs.Prelude.{◌≡◌, ◌<◌, ◌≤◌, true, false, List, is_ok, Some};
+ghost use Rattle.std.specs.Prelude.{◌≡◌, ◌<◌, ◌≤◌, true, false, List, is_ok, Some, Ok};
 ghost use Rattle.terms.specs.Maps.{every, node_in_range, atom_in_range};
 ghost use Rattle.stores.specs.Sentences.{Sentence};
 ghost use Rattle.stores.specs.Refusals.{Limits};
@@ -11,18 +11,17 @@ ghost use Rattle.loader.specs.Readings.{words_left};
 ghost use Rattle.loader.specs.Blocks.{state_at, at_side, ReadsOn, ReadsBlock};
 
 use crate::collecting::collect_atoms;
-use crate::ends::{Due, Ended};
+use crate::ends::Due;
 use crate::keeping::keep;
 use crate::left::left_path;
 use crate::loader::Loader;
-use crate::reading::{no_number, right_side};
+use crate::reading::right_side;
 use faults::GrammarFault;
 use lookahead::{Parser, Word};
 use names::Names;
 use std::mem::swap;
 use stores::Keeper;
 use terms::Node;
-use terms::limits::NODES;
 
 impl Loader {
     // The left path of an equation; or the full stop that ends the block.
@@ -38,12 +37,12 @@ impl Loader {
         ensures less { is_ok result ≡ true → words_left names.new p.new < words_left names.old p.old }
     {
         match p.word {
-            Word::Less => {
+            Ok(Word::Less) => {
                 let place = p.place;
                 left_path(p, names, &mut self.left)?;
                 Ok(Some(Due::RightSide(place)))
             }
-            Word::Stop => {
+            Ok(Word::Stop) => {
                 p.advance(names);
                 Ok(None)
             }
@@ -70,7 +69,7 @@ impl Loader {
         self.items.clear();
         let _ = right_side(p, names, &mut self.items, true)?;
         match p.word {
-            Word::Close => {
+            Ok(Word::Close) => {
                 keep(
                     keeper,
                     node,
@@ -102,10 +101,9 @@ impl Loader {
         ensures less { is_ok result ≡ true → words_left names.new p.new < words_left names.old p.old }
     {
         self.items.clear();
-        let ended = right_side(p, names, &mut self.items, false)?;
-        match ended {
-            Ended::Here => match p.word {
-                Word::Stop => {
+        match right_side(p, names, &mut self.items, false)? {
+            None => match p.word {
+                Ok(Word::Stop) => {
                     keep(
                         keeper,
                         node,
@@ -118,21 +116,22 @@ impl Loader {
                 }
                 _ => Err(p.misplaced()),
             },
-            Ended::NextEquation(mark, at) => {
+            Some(next) => {
                 let end = self.items.len() - 1;
-                if !collect_atoms(&self.items.as_slice()[mark + 1..end], &mut self.next) {
+                let path = &self.items.as_slice()[next.mark + 1..end];
+                let Ok(()) = collect_atoms(path, &mut self.next) else {
                     return Err(p.misplaced());
-                }
+                };
                 keep(
                     keeper,
                     node,
                     self.left.as_slice(),
-                    &self.items.as_slice()[0..mark],
+                    &self.items.as_slice()[0..next.mark],
                     place,
                 )?;
                 swap(&mut self.left, &mut self.next);
                 p.advance(names);
-                Ok(Some(Due::RightSide(at)))
+                Ok(Some(Due::RightSide(next.place)))
             }
         }
     }
@@ -156,7 +155,7 @@ impl Loader {
         match due {
             Due::Equation => self.equation(p, names),
             Due::RightSide(place) => match p.word {
-                Word::Open => {
+                Ok(Word::Open) => {
                     p.advance(names);
                     self.round_side(p, names, keeper, node, place)
                 }
@@ -174,16 +173,13 @@ impl Loader {
         node: Node,
     ) -> Result<(), GrammarFault>
         requires few { words_left names.old p.old ≤ 65536 }
-        requires starts { p.old.word ≡ w.Node node }
+        requires starts { p.old.word ≡ Ok (w.Node node) }
         ensures goes { ReadsBlock K.Keeper.limits names.old p.old (K.Keeper.kept keeper.old) result names.new p.new (K.Keeper.kept keeper.new) }
         ensures grows { Grown (names_of names.old) (names_of names.new) }
         ensures less { is_ok result ≡ true → words_left names.new p.new < words_left names.old p.old }
     {
-        if node.0 >= NODES {
-            return Err(no_number(p.place));
-        }
         p.advance(names);
-        let Word::Colon = p.word else {
+        let Ok(Word::Colon) = p.word else {
             return Err(p.misplaced());
         };
         p.advance(names);

@@ -1,24 +1,14 @@
 // The left path of an equation, from its < through its ==.
 ghost use Rattle.std.specs.Prelude.{◌≡◌, ◌<◌, ◌≤◌, true, is_ok, vec_capacity};
 ghost use Rattle.lookahead.specs.Ahead.{Grown, names_of};
-ghost use Rattle.loader.specs.Readings.{is_less_lem, is_equals_lem, words_left};
+ghost use Rattle.loader.specs.Readings.{is_less_lem, words_left};
 ghost use Rattle.loader.specs.Equations.{ReadsLeft};
 
-use crate::reading::{is_greater, no_number};
+use crate::reading::no_number;
 use faults::GrammarFault;
 use lookahead::{Parser, Word};
 use names::Names;
 use terms::Atom;
-use terms::limits::ATOMS;
-
-pub(crate) fn is_equals(word: Word) -> bool
-    ensures { result ≡ is_equals_lem word }
-{
-    match word {
-        Word::Equals => true,
-        _ => false,
-    }
-}
 
 pub(crate) fn left_path(
     p: &mut Parser<'_>,
@@ -34,20 +24,18 @@ pub(crate) fn left_path(
 {
     left.clear();
     p.advance(names);
-    while let Word::Atom(a) = p.word {
-        if a.0 >= ATOMS {
-            return Err(no_number(p.place));
-        }
+    while let Ok(Word::Atom(a)) = p.word {
         left.push_reserved(a);
         p.advance(names);
     }
-    if !is_greater(p.word) {
-        return Err(p.misplaced());
+    match p.word {
+        Ok(Word::Greater) => p.advance(names),
+        Ok(Word::UnnumberedAtom) => return Err(no_number(p.place)),
+        _ => return Err(p.misplaced()),
     }
-    p.advance(names);
-    if !is_equals(p.word) {
+    let Ok(Word::Equals) = p.word else {
         return Err(p.misplaced());
-    }
+    };
     p.advance(names);
     Ok(())
 }

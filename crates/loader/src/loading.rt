@@ -8,6 +8,7 @@ ghost use Rattle.loader.specs.Blocks.{GoesText, Leaves};
 ghost use Rattle.loader.specs.Loads.{Loads, KeepsTheTheorySpelt};
 
 use crate::loader::Loader;
+use crate::reading::no_number;
 use faults::{GrammarFault, LoadFault, TEXT_BYTES};
 use lookahead::{Parser, Word};
 use names::Names;
@@ -38,11 +39,12 @@ impl Loader {
         ensures grows { Grown (names_of names.old) (names_of names.new) }
     {
         let mut p = Parser::new(text, names);
-        while let Word::Node(node) = p.word {
+        while let Ok(Word::Node(node)) = p.word {
             self.block(&mut p, names, keeper, node)?;
         }
         match p.word {
-            Word::End => Ok(()),
+            Ok(Word::End) => Ok(()),
+            Ok(Word::UnnumberedNode) => Err(no_number(p.place)),
             _ => Err(p.misplaced()),
         }
     }

@@ -1,63 +1,36 @@
 // Term list, term and path: readers that call one another, with the nesting that is left falling.
-ghost use Rattle.std.specs.Prelude.{◌≡◌, ◌+◌, ◌<◌, ◌≤◌, true, false, [], ◌∷◌, ◌++◌, is_ok, Some, None, vec_len, vec_capacity};
+ghost use Rattle.std.specs.Prelude.{◌≡◌, ◌+◌, ◌<◌, ◌≤◌, true, false, [], ◌∷◌, ◌++◌, is_ok, Ok, Some, None, vec_len, vec_capacity};
 ghost use Rattle.terms.specs.declared.items.Quoting.TheVariants.{Plain};
 ghost use Rattle.terms.specs.declared.items.Item.TheVariants as item;
 ghost use Rattle.terms.specs.Maps.{node_in_range, item_in_range};
 ghost use Rattle.grammar.specs.Parsing.{ready, noded, coloned, quoting, quoted_node};
 ghost use Rattle.faults.specs.declared.kinds.GrammarFault.TheVariants as fault;
+ghost use Rattle.lookahead.specs.declared.word.Word.TheVariants as w;
 ghost use Rattle.lookahead.specs.Ahead.{Grown, names_of};
-ghost use Rattle.loader.specs.Readings.{is_less_lem, is_colon_lem, is_quote_lem, is_greater, starts, is_next, words_left, ReadsTerms, ReadsPath, ReadsEnd, ReadsSide, Stops};
+ghost use Rattle.loader.specs.Readings.{is_less_lem, starts, is_next, words_left, ReadsTerms, ReadsPath, ReadsEnd, ReadsSide, Stops};
 
-use crate::ends::Ended;
+use crate::ends::NextEquation;
 use faults::{GrammarFault, GrammarRefusal, NameFault};
 use lookahead::{Parser, Word};
 use names::Names;
-use terms::limits::{ATOMS, NESTING, NODES};
+use terms::limits::NESTING;
 use terms::{Item, Node, Quoting};
+use words::WordRefusal;
 
-fn is_less(word: Word) -> bool
-    ensures { result ≡ is_less_lem word }
-{
-    match word {
-        Word::Less => true,
-        _ => false,
-    }
-}
-
-fn is_colon(word: Word) -> bool
-    ensures { result ≡ is_colon_lem word }
-{
-    match word {
-        Word::Colon => true,
-        _ => false,
-    }
-}
-
-fn is_quote(word: Word) -> bool
-    ensures { result ≡ is_quote_lem word }
-{
-    match word {
-        Word::Quote => true,
-        _ => false,
-    }
-}
-
-pub(crate) fn is_greater(word: Word) -> bool
-    ensures { result ≡ is_greater word }
-{
-    match word {
-        Word::Greater => true,
-        _ => false,
-    }
-}
-
-fn starts_term(word: Word) -> bool
+fn starts_term(word: Result<Word, WordRefusal>) -> bool
     ensures { result ≡ starts word }
 {
-    match word {
-        Word::Atom(_) | Word::Node(_) | Word::Less | Word::Quote => true,
-        _ => false,
-    }
+    matches!(
+        word,
+        Ok(
+            Word::Atom(_)
+                | Word::UnnumberedAtom
+                | Word::Node(_)
+                | Word::UnnumberedNode
+                | Word::Less
+                | Word::Quote
+        )
+    )
 }
 
 pub(crate) fn no_number(place: usize) -> GrammarFault
@@ -92,9 +65,9 @@ fn path(
     items.push_reserved(Item::Open(quoting, node));
     p.advance(names);
     terms(p, names, items, left - 1)?;
-    if !is_greater(p.word) {
+    let Ok(Word::Greater) = p.word else {
         return Err(p.misplaced());
-    }
+    };
     items.push_reserved(Item::Close);
     p.advance(names);
     match quoting {
@@ -108,9 +81,9 @@ fn end_quote(p: &mut Parser<'_>, names: &mut Names) -> Result<(), GrammarFault>
     ensures grows { Grown (names_of names.old) (names_of names.new) }
     ensures less { is_ok result ≡ true → words_left names.new p.new ≤ words_left names.old p.old }
 {
-    if !is_quote(p.word) {
+    let Ok(Word::Quote) = p.word else {
         return Err(p.misplaced());
-    }
+    };
     p.advance(names);
     Ok(())
 }
@@ -153,10 +126,9 @@ fn term(
     ensures capacity { vec_capacity items.new ≡ vec_capacity items.old }
     ensures each { is_ok result ≡ true → vec_len items.new + words_left names.new p.new ≤ vec_len items.old + words_left names.old p.old }
 {
-    if is_less(p.word) {
-        path(p, names, items, left, Quoting::Plain, None)
-    } else {
-        unopened(p, names, items, left)
+    match p.word {
+        Ok(Word::Less) => path(p, names, items, left, Quoting::Plain, None),
+        _ => unopened(p, names, items, left),
     }
 }
 
@@ -170,7 +142,7 @@ fn unopened(
 ) -> Result<(), GrammarFault>
     requires room { vec_len items.old + words_left names.old p.old ≤ vec_capacity items.old }
     requires starts { starts p.old.word ≡ true }
-    requires unopened { is_less_lem p.old.word ≡ false }
+    requires unopened { p.old.word ≡ Ok w.Less → ⊥ }
     requires depth { left ≤ 4 }
     ensures goes { ReadsTerms left ready names.old p.old items.old.items result names.new p.new items.new.items }
     ensures grows { Grown (names_of names.old) (names_of names.new) }
@@ -179,21 +151,16 @@ fn unopened(
     ensures each { is_ok result ≡ true → vec_len items.new + words_left names.new p.new ≤ vec_len items.old + words_left names.old p.old }
 {
     match p.word {
-        Word::Atom(a) => {
-            if a.0 >= ATOMS {
-                return Err(no_number(p.place));
-            }
+        Ok(Word::Atom(a)) => {
             items.push_reserved(Item::Atom(a));
             p.advance(names);
             Ok(())
         }
-        Word::Node(n) => {
-            if n.0 >= NODES {
-                return Err(no_number(p.place));
-            }
+        Ok(Word::Node(n)) => {
             p.advance(names);
             after_node(p, names, items, left, n)
         }
+        Ok(Word::UnnumberedAtom | Word::UnnumberedNode) => Err(no_number(p.place)),
         _ => {
             p.advance(names);
             after_quote(p, names, items, left)
@@ -218,12 +185,15 @@ fn after_node(
     ensures capacity { vec_capacity items.new ≡ vec_capacity items.old }
     ensures each { is_ok result ≡ true → vec_len items.new + words_left names.new p.new ≤ 1 + vec_len items.old + words_left names.old p.old }
 {
-    if is_colon(p.word) {
-        p.advance(names);
-        named_path(p, names, items, left, Quoting::Plain, node)
-    } else {
-        items.push_reserved(Item::Node(Quoting::Plain, node));
-        Ok(())
+    match p.word {
+        Ok(Word::Colon) => {
+            p.advance(names);
+            named_path(p, names, items, left, Quoting::Plain, node)
+        }
+        _ => {
+            items.push_reserved(Item::Node(Quoting::Plain, node));
+            Ok(())
+        }
     }
 }
 
@@ -243,14 +213,12 @@ fn after_quote(
     ensures each { is_ok result ≡ true → vec_len items.new + words_left names.new p.new ≤ vec_len items.old + words_left names.old p.old }
 {
     match p.word {
-        Word::Less => path(p, names, items, left, Quoting::Quoted, None),
-        Word::Node(n) => {
-            if n.0 >= NODES {
-                return Err(no_number(p.place));
-            }
+        Ok(Word::Less) => path(p, names, items, left, Quoting::Quoted, None),
+        Ok(Word::Node(n)) => {
             p.advance(names);
             after_quoted_node(p, names, items, left, n)
         }
+        Ok(Word::UnnumberedNode) => Err(no_number(p.place)),
         _ => Err(p.misplaced()),
     }
 }
@@ -272,16 +240,18 @@ fn after_quoted_node(
     ensures capacity { vec_capacity items.new ≡ vec_capacity items.old }
     ensures each { is_ok result ≡ true → vec_len items.new + words_left names.new p.new ≤ vec_len items.old + words_left names.old p.old }
 {
-    if is_colon(p.word) {
-        p.advance(names);
-        return named_path(p, names, items, left, Quoting::Quoted, node);
+    match p.word {
+        Ok(Word::Colon) => {
+            p.advance(names);
+            named_path(p, names, items, left, Quoting::Quoted, node)
+        }
+        Ok(Word::Quote) => {
+            items.push_reserved(Item::Node(Quoting::Quoted, node));
+            p.advance(names);
+            Ok(())
+        }
+        _ => Err(p.misplaced()),
     }
-    if !is_quote(p.word) {
-        return Err(p.misplaced());
-    }
-    items.push_reserved(Item::Node(Quoting::Quoted, node));
-    p.advance(names);
-    Ok(())
 }
 
 // The path behind a node and its colon.
@@ -303,31 +273,26 @@ fn named_path(
     ensures capacity { vec_capacity items.new ≡ vec_capacity items.old }
     ensures each { is_ok result ≡ true → vec_len items.new + words_left names.new p.new ≤ vec_len items.old + words_left names.old p.old }
 {
-    if !is_less(p.word) {
-        return Err(p.misplaced());
+    match p.word {
+        Ok(Word::Less) => path(p, names, items, left, quoting, Some(node)),
+        _ => Err(p.misplaced()),
     }
-    path(p, names, items, left, quoting, Some(node))
 }
 
-fn begins_next(round: bool, word: Word) -> bool
+fn begins_next(round: bool, word: Result<Word, WordRefusal>) -> bool
     ensures { result ≡ is_next round word }
 {
-    if round {
-        return false;
-    }
-    match word {
-        Word::Equals => true,
-        _ => false,
-    }
+    !round && matches!(word, Ok(Word::Equals))
 }
 
-/// The terms of a right side, in ( ) where `round` is true, up to the word that ends them.
+/// The terms of a right side, in ( ) where `round` is true, up to the word that ends them, or through a path that begins the next
+/// equation.
 pub(crate) fn right_side(
     p: &mut Parser<'_>,
     names: &mut Names,
     items: &mut Vec<Item>,
     round: bool,
-) -> Result<Ended, GrammarFault>
+) -> Result<Option<NextEquation>, GrammarFault>
     requires room { vec_len items.old + words_left names.old p.old ≤ vec_capacity items.old }
     ensures goes { ReadsSide round names.old p.old items.old.items result names.new p.new items.new.items }
     ensures grows { Grown (names_of names.old) (names_of names.new) }
@@ -337,16 +302,17 @@ pub(crate) fn right_side(
     ensures each { is_ok result ≡ true → vec_len items.new + words_left names.new p.new ≤ vec_len items.old + words_left names.old p.old }
 {
     while starts_term(p.word) {
-        if is_less(p.word) {
-            let mark = items.len();
-            let place = p.place;
-            path(p, names, items, NESTING, Quoting::Plain, None)?;
-            if begins_next(round, p.word) {
-                return Ok(Ended::NextEquation(mark, place));
+        match p.word {
+            Ok(Word::Less) => {
+                let mark = items.len();
+                let place = p.place;
+                path(p, names, items, NESTING, Quoting::Plain, None)?;
+                if begins_next(round, p.word) {
+                    return Ok(Some(NextEquation { mark, place }));
+                }
             }
-        } else {
-            unopened(p, names, items, NESTING)?;
+            _ => unopened(p, names, items, NESTING)?,
         }
     }
-    Ok(Ended::Here)
+    Ok(None)
 }

@@ -1,13 +1,18 @@
 -- The word ahead: its number, and that a load goes on from it as from the text.
 use Rattle.std.proofs.Common.{◌≡◌, ℕ, suc, ◌+◌, ◌-◌, ◌≤◌, Bool, true, false, cond, ltb, leb, List, [], ◌∷◌, length, drop, Ok, Err, sym, refl, ap, ◌∙◌, subst, arith, drop-drop}
-use Rattle.std.proofs.lemmas.Bool.{le-leb, ltb-true, ltb-false, and_from}
+use Rattle.std.proofs.lemmas.Bool.{le-leb, ltb-true, ltb-false, and_from, and_parts, cond-true}
+use Rattle.terms.specs.declared.items.Node.{Node}
+use Rattle.terms.specs.declared.items.Atom.{Atom}
 use Rattle.terms.specs.Limits.{nesting_limit}
 use Rattle.stores.specs.Sentences.{Sentence}
 use Rattle.stores.specs.Refusals.{Limits}
 use Rattle.names.specs.declared.part.NoNumber.{NoNumber}
+use Rattle.names.specs.declared.part.NoNumber.TheVariants as refused
 use Rattle.names.specs.Numbers.{number, takes}
 use Rattle.names.specs.Tables.{node_or_none, atom_or_none}
+use Rattle.names.specs.declared.tables.Names.{Names as NameTables}
 use Rattle.names.proofs.Laws.{number_most}
+use Rattle.names.proofs.Counts.{few_nodes, few_atoms}
 use Rattle.words.specs.declared.faults.WordRefusal.{WordRefusal}
 use Rattle.words.specs.Words.{Sign, Token, Reading, read, refused, gap, word_from, word_at}
 use Rattle.words.specs.Texts.{Words, end_at, fault_at, continued, words_within, words_from, word_count, Reads}
@@ -21,8 +26,8 @@ use Rattle.grammar.specs.Loading.{load, checked, within_limits, kept_or, late_re
 use Rattle.grammar.specs.Texts.{Names, sign_word, token_word, token_names, numbering, all_names, loaded_by}
 use Rattle.lookahead.specs.declared.word.Word.{Word}
 use Rattle.lookahead.specs.declared.word.Word.TheVariants as w
-use Rattle.lookahead.specs.Ended.{none, nothing_behind}
-use Rattle.lookahead.specs.Ahead.{cons, size, gives, Moves, sign_of, word_for, Short}
+use Rattle.lookahead.specs.Ended.{none, nothing_behind, number_in_range}
+use Rattle.lookahead.specs.Ahead.{names_of, cons, size, gives, Moves, sign_of, node_word, atom_word, word_for, Short}
 
 -- where a table takes a short name no more, the name's number is the limit
 full : (limit : ℕ) (names : List (List ℕ)) (x : List ℕ) → length x ≤ 32 → length names ≤ limit → takes limit names x ≡ false → number names x ≡ limit
@@ -49,7 +54,7 @@ pub no_number : (n limit : ℕ) → n ≡ limit → ltb n limit ≡ true → ⊥
 no_number n limit e t = let h = ltb-true n limit t in omega arith
 
 -- ---- what the word ahead is in front of
-sign_cons : (s : ℕ) (x : Sign) (R : Stream) → cons s (sign_of x) R ≡ word s (sign_word x) R
+sign_cons : (s : ℕ) (x : Sign) (R : Stream) → cons s (Ok (sign_of x)) R ≡ word s (sign_word x) R
 sign_cons s Sign.less R = refl
 sign_cons s Sign.greater R = refl
 sign_cons s Sign.colon R = refl
@@ -60,11 +65,56 @@ sign_cons s Sign.open_paren R = refl
 sign_cons s Sign.close_paren R = refl
 sign_cons s Sign.stray R = refl
 
-token_cons : (ns : Names) (s : ℕ) (t : Token) (R : Stream) → (t ≡ Token.text_end → ⊥) → cons s (word_for ns t) R ≡ word s (token_word ns t) R
-token_cons ns s (Token.sign x) R h = sign_cons s x R
-token_cons ns s (Token.node x) R h = refl
-token_cons ns s (Token.atom x) R h = refl
-token_cons ns s Token.text_end R h = absurd (h refl)
+node_cons : (s n : ℕ) (R : Stream) → n ≤ 1024 → cons s (Ok (node_word n)) R ≡ word s (T.NodeName (record { 0 = n })) R
+node_cons s n R h = go (ltb n 1024) refl
+  where
+    go : (b : Bool) → ltb n 1024 ≡ b → cons s (Ok (cond b (w.Node (record { 0 = n })) w.UnnumberedNode)) R ≡ word s (T.NodeName (record { 0 = n })) R
+    go true t = refl
+    go false t =
+        let l = ltb-false n 1024 t in
+        let e : 1024 ≡ n = omega arith in ap (λ (m : ℕ). word s (T.NodeName (record { 0 = m })) R) e
+
+atom_cons : (s n : ℕ) (R : Stream) → n ≤ 4096 → cons s (Ok (atom_word n)) R ≡ word s (T.AtomName (record { 0 = n })) R
+atom_cons s n R h = go (ltb n 4096) refl
+  where
+    go : (b : Bool) → ltb n 4096 ≡ b → cons s (Ok (cond b (w.Atom (record { 0 = n })) w.UnnumberedAtom)) R ≡ word s (T.AtomName (record { 0 = n })) R
+    go true t = refl
+    go false t =
+        let l = ltb-false n 4096 t in
+        let e : 4096 ≡ n = omega arith in ap (λ (m : ℕ). word s (T.AtomName (record { 0 = m })) R) e
+
+-- there are no more names than numbers
+pub record Few (ns : Names) : Type 0 where
+  pub nodes : length ns.nodes ≤ 1024
+  pub atoms : length ns.atoms ≤ 4096
+
+pub few_names : (n : NameTables) → Few (names_of n)
+few_names n = record { nodes = few_nodes n; atoms = few_atoms n }
+
+token_cons : (ns : Names) (s : ℕ) (t : Token) (R : Stream) → Few ns → (t ≡ Token.text_end → ⊥) → cons s (Ok (word_for ns t)) R ≡ word s (token_word ns t) R
+token_cons ns s (Token.sign x) R f h = sign_cons s x R
+token_cons ns s (Token.node x) R f h = let a = f.nodes in let b = number_most ns.nodes x in node_cons s (number ns.nodes x) R (omega arith)
+token_cons ns s (Token.atom x) R f h = let a = f.atoms in let b = number_most ns.atoms x in atom_cons s (number ns.atoms x) R (omega arith)
+token_cons ns s Token.text_end R f h = absurd (h refl)
+
+-- a name that has a number
+pub given_node : (names : List (List ℕ)) (x : List ℕ) (n : Node) → Ok n ≡ node_or_none names x → w.Node n ≡ node_word (number names x)
+given_node names x n = go (takes 1024 names x) refl
+  where
+    go : (b : Bool) → takes 1024 names x ≡ b → Ok n ≡ cond b (Ok (record { 0 = number names x })) (Err refused.Full) → w.Node n ≡ node_word (number names x)
+    go true t e =
+        let h : n ≡ record { 0 = number names x } = cc in
+        let l = (and_parts (leb (length x) 32) (ltb (number names x) 1024) t).1 in ap (λ (m : Node). w.Node m) h ∙ sym (cond-true _ _ _ l)
+    go false t e = absurd (grind arith)
+
+pub given_atom : (names : List (List ℕ)) (x : List ℕ) (n : Atom) → Ok n ≡ atom_or_none names x → w.Atom n ≡ atom_word (number names x)
+given_atom names x n = go (takes 4096 names x) refl
+  where
+    go : (b : Bool) → takes 4096 names x ≡ b → Ok n ≡ cond b (Ok (record { 0 = number names x })) (Err refused.Full) → w.Atom n ≡ atom_word (number names x)
+    go true t e =
+        let h : n ≡ record { 0 = number names x } = cc in
+        let l = (and_parts (leb (length x) 32) (ltb (number names x) 4096) t).1 in ap (λ (m : Atom). w.Atom m) h ∙ sym (cond-true _ _ _ l)
+    go false t e = absurd (grind arith)
 
 -- Behind a name without a number nothing counts.
 within : (c : Bool) (s : ℕ) (F F' : Names) → loaded_by (cond c (parsing.refused 5 s) (parsing.refused 10 s)) F ≡ loaded_by (cond c (parsing.refused 5 s) (parsing.refused 10 s)) F'
@@ -111,7 +161,7 @@ text_ends text at s e q =
     let x = end_place (drop (at + gap false (drop at text)) text) (at + gap false (drop at text)) s e h q in
     end_again text e (ap (λ (k : ℕ). drop k text) x.1 ∙ x.0)
 
-sign_behind : (x : Sign) (W : Words) → nothing_behind (sign_of x) W ≡ true
+sign_behind : (x : Sign) (W : Words) → nothing_behind (Ok (sign_of x)) W ≡ true
 sign_behind Sign.less W = refl
 sign_behind Sign.greater W = refl
 sign_behind Sign.colon W = refl
@@ -122,6 +172,43 @@ sign_behind Sign.open_paren W = refl
 sign_behind Sign.close_paren W = refl
 sign_behind Sign.stray W = refl
 
+node_behind : (b : Bool) (n : Node) (W : Words) → nothing_behind (Ok (cond b (w.Node n) w.UnnumberedNode)) W ≡ true
+node_behind true n W = refl
+node_behind false n W = refl
+
+atom_behind : (b : Bool) (n : Atom) (W : Words) → nothing_behind (Ok (cond b (w.Atom n) w.UnnumberedAtom)) W ≡ true
+atom_behind true n W = refl
+atom_behind false n W = refl
+
+-- a word's number is in range
+sign_number : (x : Sign) → number_in_range (Ok (sign_of x)) ≡ true
+sign_number Sign.less = refl
+sign_number Sign.greater = refl
+sign_number Sign.colon = refl
+sign_number Sign.equals = refl
+sign_number Sign.stop = refl
+sign_number Sign.quote = refl
+sign_number Sign.open_paren = refl
+sign_number Sign.close_paren = refl
+sign_number Sign.stray = refl
+
+node_number : (n : ℕ) (b : Bool) → ltb n 1024 ≡ b → number_in_range (Ok (cond b (w.Node (record { 0 = n })) w.UnnumberedNode)) ≡ true
+node_number n true t = t
+node_number n false t = refl
+
+atom_number : (n : ℕ) (b : Bool) → ltb n 4096 ≡ b → number_in_range (Ok (cond b (w.Atom (record { 0 = n })) w.UnnumberedAtom)) ≡ true
+atom_number n true t = t
+atom_number n false t = refl
+
+token_number : (ns : Names) (t : Token) → number_in_range (Ok (word_for ns t)) ≡ true
+token_number ns (Token.sign x) = sign_number x
+token_number ns (Token.node x) = node_number (number ns.nodes x) _ refl
+token_number ns (Token.atom x) = atom_number (number ns.atoms x) _ refl
+token_number ns Token.text_end = refl
+
+pub word_number : (ns : Names) (t : Token) (k : Word) → k ≡ word_for ns t → number_in_range (Ok k) ≡ true
+word_number ns t k i = ap (λ (k : Word). number_in_range (Ok k)) i ∙ token_number ns t
+
 -- ---- on to the next word
 pub size_words : (ns : Names) (W : Words) → size (numbering ns W) ≡ word_count W
 unfolding size numbering
@@ -129,10 +216,10 @@ size_words ns (Words.word s t e W) = ap suc (size_words (token_names ns t) W)
 size_words ns (end_at s) = refl
 size_words ns (fault_at r s) = refl
 
-module _ (text : List ℕ) (at : ℕ) (ns : Names) (inside : at ≤ length text) where
+module _ (text : List ℕ) (at : ℕ) (ns : Names) (inside : at ≤ length text) (few : Few ns) where
   pub on_fault : (r : WordRefusal) (s : ℕ) (R : Stream) (F : Names) → refused r s ≡ word_at text at
-      → Moves (numbering ns (words_from text at)) (all_names ns (words_from text at)) (cons s (w.Broken r) R) F
-      × (size (cons s (w.Broken r) R) ≡ size (numbering ns (words_from text at)))
+      → Moves (numbering ns (words_from text at)) (all_names ns (words_from text at)) (cons s (Err r) R) F
+      × (size (cons s (Err r) R) ≡ size (numbering ns (words_from text at)))
   unfolding numbering all_names load size
   on_fault r s R F q =
       let W : words_from text at ≡ fault_at r s = next_words text at inside ∙ ap (λ (x : Reading). continued x (words_from text)) (sym q) in
@@ -140,8 +227,8 @@ module _ (text : List ℕ) (at : ℕ) (ns : Names) (inside : at ≤ length text)
 
   abbrev On : Token → ℕ → ℕ → Names → Word → Type 0
   On t s e ns' k =
-      Moves (numbering ns (words_from text at)) (all_names ns (words_from text at)) (cons s k (numbering ns' (words_from text e))) (all_names ns' (words_from text e))
-      × (size (cons s k (numbering ns' (words_from text e))) ≡ size (numbering ns (words_from text at)))
+      Moves (numbering ns (words_from text at)) (all_names ns (words_from text at)) (cons s (Ok k) (numbering ns' (words_from text e))) (all_names ns' (words_from text e))
+      × (size (cons s (Ok k) (numbering ns' (words_from text e))) ≡ size (numbering ns (words_from text at)))
 
   on_end : (s e : ℕ) (ns' : Names) (k : Word) → read s Token.text_end e ≡ word_at text at → k ≡ w.End → ns' ≡ ns → On Token.text_end s e ns' k
   unfolding numbering all_names size
@@ -150,8 +237,8 @@ module _ (text : List ℕ) (at : ℕ) (ns : Names) (inside : at ≤ length text)
       let V : words_from text e ≡ end_at (e + 0) = text_ends text at s e q in (
         λ l σ.
             ap (λ (W : Words). gives l (numbering ns W) (all_names ns W) σ) W ∙ ap (λ (F : Names). gives l (over s) F σ) (sym m)
-            ∙ sym (ap (λ (k : Word). gives l (cons s k (numbering ns' (words_from text e))) (all_names ns' (words_from text e)) σ) i ∙ ap (λ (V : Words). gives l (over s) (all_names ns' V) σ) V),
-        ap (λ (k : Word). size (cons s k (numbering ns' (words_from text e)))) i ∙ sym (ap (λ (W : Words). size (numbering ns W)) W),
+            ∙ sym (ap (λ (k : Word). gives l (cons s (Ok k) (numbering ns' (words_from text e))) (all_names ns' (words_from text e)) σ) i ∙ ap (λ (V : Words). gives l (over s) (all_names ns' V) σ) V),
+        ap (λ (k : Word). size (cons s (Ok k) (numbering ns' (words_from text e)))) i ∙ sym (ap (λ (W : Words). size (numbering ns W)) W),
       )
 
   on_more : (t : Token) (s e : ℕ) (ns' : Names) (k : Word) → (t ≡ Token.text_end → ⊥) → read s t e ≡ word_at text at → k ≡ word_for ns t → (numbered (token_word ns t) ≡ true → ns' ≡ token_names ns t)
@@ -160,8 +247,8 @@ module _ (text : List ℕ) (at : ℕ) (ns : Names) (inside : at ≤ length text)
   on_more t s e ns' k n q i m =
       let W : words_from text at ≡ Words.word s t e (words_from text e) =
       next_words text at inside ∙ ap (λ (x : Reading). continued x (words_from text)) (sym q) ∙ goes_on s e t (words_from text) n in
-      let K : cons s k (numbering ns' (words_from text e)) ≡ word s (token_word ns t) (numbering ns' (words_from text e)) =
-      ap (λ (k : Word). cons s k (numbering ns' (words_from text e))) i ∙ token_cons ns s t (numbering ns' (words_from text e)) n in (
+      let K : cons s (Ok k) (numbering ns' (words_from text e)) ≡ word s (token_word ns t) (numbering ns' (words_from text e)) =
+      ap (λ (k : Word). cons s (Ok k) (numbering ns' (words_from text e))) i ∙ token_cons ns s t (numbering ns' (words_from text e)) few n in (
         λ l σ.
             ap (λ (W : Words). gives l (numbering ns W) (all_names ns W) σ) W
             ∙ tail (numbered (token_word ns t)) refl l σ
@@ -176,8 +263,8 @@ module _ (text : List ℕ) (at : ℕ) (ns : Names) (inside : at ≤ length text)
       tail false h l σ = unnumbered l s (token_word ns t) _ _ _ _ σ h
 
   pub on_word : (t : Token) (s e : ℕ) (ns' : Names) (k : Word) → read s t e ≡ word_at text at → k ≡ word_for ns t → (numbered (token_word ns t) ≡ true → ns' ≡ token_names ns t)
-      → Moves (numbering ns (words_from text at)) (all_names ns (words_from text at)) (cons s k (numbering ns' (words_from text e))) (all_names ns' (words_from text e))
-      × (size (cons s k (numbering ns' (words_from text e))) ≡ size (numbering ns (words_from text at)))
+      → Moves (numbering ns (words_from text at)) (all_names ns (words_from text at)) (cons s (Ok k) (numbering ns' (words_from text e))) (all_names ns' (words_from text e))
+      × (size (cons s (Ok k) (numbering ns' (words_from text e))) ≡ size (numbering ns (words_from text at)))
   on_word (Token.sign x) s e ns' k q i m = on_more (Token.sign x) s e ns' k (λ z. let y : ◌≡◌ {A = ℕ} 0 1 = cc in omega arith) q i m
   on_word (Token.node x) s e ns' k q i m = on_more (Token.node x) s e ns' k (λ z. let y : ◌≡◌ {A = ℕ} 0 1 = cc in omega arith) q i m
   on_word (Token.atom x) s e ns' k q i m = on_more (Token.atom x) s e ns' k (λ z. let y : ◌≡◌ {A = ℕ} 0 1 = cc in omega arith) q i m
@@ -198,8 +285,8 @@ module _ (text : List ℕ) (at : ℕ) (ns : Names) (inside : at ≤ length text)
   read_short Token.text_end s e q = tt
 
   -- behind the text's end there are no words
-  pub last_word : (t : Token) (s e : ℕ) (k : Word) → read s t e ≡ word_at text at → k ≡ word_for ns t → nothing_behind k (words_from text e) ≡ true
-  last_word (Token.sign x) s e k q i = ap (λ (k : Word). nothing_behind k (words_from text e)) i ∙ sign_behind x (words_from text e)
-  last_word (Token.node x) s e k q i = ap (λ (k : Word). nothing_behind k (words_from text e)) i
-  last_word (Token.atom x) s e k q i = ap (λ (k : Word). nothing_behind k (words_from text e)) i
-  last_word Token.text_end s e k q i = ap (λ (k : Word). nothing_behind k (words_from text e)) i ∙ ap none (text_ends text at s e q)
+  pub last_word : (t : Token) (s e : ℕ) (k : Word) → read s t e ≡ word_at text at → k ≡ word_for ns t → nothing_behind (Ok k) (words_from text e) ≡ true
+  last_word (Token.sign x) s e k q i = ap (λ (k : Word). nothing_behind (Ok k) (words_from text e)) i ∙ sign_behind x (words_from text e)
+  last_word (Token.node x) s e k q i = ap (λ (k : Word). nothing_behind (Ok k) (words_from text e)) i ∙ node_behind _ _ (words_from text e)
+  last_word (Token.atom x) s e k q i = ap (λ (k : Word). nothing_behind (Ok k) (words_from text e)) i ∙ atom_behind _ _ (words_from text e)
+  last_word Token.text_end s e k q i = ap (λ (k : Word). nothing_behind (Ok k) (words_from text e)) i ∙ ap none (text_ends text at s e q)

@@ -11,8 +11,6 @@ use crate::parser::Parser;
 use crate::word::Word;
 use faults::{GrammarFault, GrammarRefusal};
 use names::Names;
-use terms::limits::{ATOMS, NODES};
-use terms::{Atom, Node};
 use words::{WordFault, WordReader};
 
 // A word with its name numbered.
@@ -25,11 +23,11 @@ fn numbered(names: &mut Names, word: words::Word<'_>) -> Word
     match word {
         words::Word::Node(name) => match names.node(name) {
             Ok(n) => Word::Node(n),
-            Err(_) => Word::Node(Node(NODES)),
+            Err(_) => Word::UnnumberedNode,
         },
         words::Word::Atom(name) => match names.atom(name) {
             Ok(a) => Word::Atom(a),
-            Err(_) => Word::Atom(Atom(ATOMS)),
+            Err(_) => Word::UnnumberedAtom,
         },
         words::Word::Less => Word::Less,
         words::Word::Greater => Word::Greater,
@@ -54,7 +52,7 @@ impl<'a> Parser<'a> {
         let mut parser = Parser {
             reader: WordReader::new(text),
             place: 0,
-            word: Word::Stray,
+            word: Ok(Word::Stray),
         };
         parser.advance(names);
         parser
@@ -69,11 +67,11 @@ impl<'a> Parser<'a> {
         match self.reader.next() {
             Ok(placed) => {
                 self.place = placed.place;
-                self.word = numbered(names, placed.word);
+                self.word = Ok(numbered(names, placed.word));
             }
             Err(fault) => {
                 self.place = fault.place;
-                self.word = Word::Broken(fault.refusal);
+                self.word = Err(fault.refusal);
             }
         }
     }
@@ -84,11 +82,11 @@ impl<'a> Parser<'a> {
         ensures place { place result ≡ self.now.place }
     {
         match self.word {
-            Word::Broken(refusal) => GrammarFault::from(WordFault {
+            Err(refusal) => GrammarFault::from(WordFault {
                 refusal,
                 place: self.place,
             }),
-            _ => GrammarFault::Own(GrammarRefusal::Misplaced, self.place),
+            Ok(_) => GrammarFault::Own(GrammarRefusal::Misplaced, self.place),
         }
     }
 }

@@ -1,13 +1,14 @@
-// A word with its name numbered.
+// A word with its name numbered. Kept apart from the word of `words`: there a name is its bytes, and here it may lack a number.
 use terms::{Atom, Node};
-use words::WordRefusal;
 
-#[derive(Clone, Copy)]
+#[derive(Clone, Copy, Debug, PartialEq, Eq)]
 pub enum Word {
-    /// Numbered 4,096 where there is no number left.
     Atom(Atom),
-    /// Numbered 1,024 where there is no number left.
+    /// The name of an atom for which no number is left.
+    UnnumberedAtom,
     Node(Node),
+    /// The name of a node for which no number is left.
+    UnnumberedNode,
     Less,
     Greater,
     Quote,
@@ -18,6 +19,4 @@ pub enum Word {
     Close,
     Stray,
     End,
-    /// No word: a fault.
-    Broken(WordRefusal),
 }

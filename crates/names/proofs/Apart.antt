@@ -1,11 +1,14 @@
 -- Names that stand apart: what is found by the chains is the name's number.
-use Rattle.std.proofs.Common.{◌≡◌, ℕ, zero, suc, ◌+◌, ◌<◌, ◌≤◌, Bool, true, false, cond, not, ◌&&◌, eqb, ltb, List, [], ◌∷◌, ◌++◌, map, length, get_or, take, drop, Some, None, Option, sym, refl, ap, ◌∙◌, subst, arith}
+use Rattle.std.proofs.Common.{◌≡◌, ℕ, zero, suc, ◌+◌, ◌<◌, ◌≤◌, Bool, true, false, cond, not, ◌&&◌, eqb, ltb, List, [], ◌∷◌, ◌++◌, map, length, get_or, take, drop, Some, None, Ok, Err, Option, Result, IfSome, IfNone, is_ok, sym, refl, ap, ◌∙◌, subst, arith}
 use lib.ListN.{length-map}
+use Rattle.std.specs.Option.{unwrap_or}
 use Rattle.std.specs.Str.{bytes_eq}
-use Rattle.std.proofs.lemmas.List.{at_drop_more, at_drop_all, map_push, take-map}
-use Rattle.std.proofs.lemmas.Bool.{and_parts, and_from, eqb-true, eq-eqb, not-true, cond-true, lt-ltb}
-use Rattle.chains.specs.Last.{or_here, last_by, earlier, up_to}
-use Rattle.chains.proofs.Walks.{Chain, chain_start, chain_hit, chain_next, chain_end}
+use Rattle.std.proofs.lemmas.List.{at_drop_more, at_drop_all, map_push, take-map, get_or-map}
+use Rattle.std.proofs.lemmas.Bool.{and_parts, and_from, eqb-true, eq-eqb, not-true, cond-true, cond-false, lt-ltb}
+use Rattle.chains.specs.Entries.{Entries, with_buckets}
+use Rattle.chains.specs.Found.{IsLastPassing, AllFailFrom}
+use Rattle.chains.specs.declared.PushError.{PushError}
+use Rattle.chains.specs.declared.PushError.TheVariants.{NoBucket, Full}
 use Rattle.names.specs.Numbers.{number, is_at}
 use Rattle.names.specs.Distinct.{none_is, distinct}
 use Rattle.names.specs.Hash.{mix, mixed, bucket_of_lem}
@@ -28,37 +31,6 @@ other_way y x e = go (bytes_eq x y) refl
     go true t =
         let q : x ≡ y = same_is x y t in
         let s : bytes_eq y x ≡ true = subst (λ (z : List ℕ). bytes_eq y z ≡ true) (sym q) (same_self y) in absurd (grind arith)
-
-abbrev pub is : List ℕ → List ℕ → Bool
-is x y = bytes_eq y x
-
--- where no name is x, none is found
-none_found : (x : List ℕ) (ys : List (List ℕ)) → none_is x ys ≡ true → last_by (is x) ys ≡ None
-none_found x [] h = refl
-none_found x (y ∷ ys) h =
-    let p = and_parts (not (bytes_eq x y)) (none_is x ys) h in
-    let e : bytes_eq y x ≡ false = other_way x y (not-true (bytes_eq x y) p.0) in
-    ap (or_here (bytes_eq y x)) (none_found x ys p.1) ∙ ap (λ (b : Bool). cond b (Some 0) None) e
-
--- the number of a name that the chains find, and that of one that they do not
-abbrev pub Numbered : Option ℕ → ℕ → ℕ → Type 0
-Numbered None n m = n ≡ m
-Numbered (Some i) n m = n ≡ i
-
-shifted : (o : Option ℕ) (n m : ℕ) → Numbered o n m → Numbered (or_here false o) (suc n) (suc m)
-shifted None n m h = ap suc h
-shifted (Some i) n m h = ap suc h
-
-pub found : (x : List ℕ) (ys : List (List ℕ)) → distinct ys ≡ true → Numbered (last_by (is x) ys) (number ys x) (length ys)
-found x [] h = refl
-found x (y ∷ ys) h = let p = and_parts (none_is y ys) (distinct ys) h in go (bytes_eq y x) refl p.0 (found x ys p.1)
-  where
-    go : (b : Bool) → bytes_eq y x ≡ b → none_is y ys ≡ true → Numbered (last_by (is x) ys) (number ys x) (length ys)
-        → Numbered (or_here b (last_by (is x) ys)) (cond b 0 (suc (number ys x))) (suc (length ys))
-    go true e n k =
-        let z : last_by (is x) ys ≡ None = none_found x ys (subst (λ (v : List ℕ). none_is v ys ≡ true) (same_is y x e) n) in
-        subst (λ (o : Option ℕ). Numbered (or_here true o) 0 (suc (length ys))) (sym z) refl
-    go false e n k = shifted (last_by (is x) ys) (number ys x) (length ys) k
 
 -- one name more, and fewer names
 none_push : (y x : List ℕ) (ys : List (List ℕ)) → none_is y ys ≡ true → bytes_eq y x ≡ false → none_is y (ys ++ x ∷ []) ≡ true
@@ -101,37 +73,48 @@ at_none [] k x h = refl
 at_none (y ∷ ys) zero x h = absurd (omega arith)
 at_none (y ∷ ys) (suc k) x h = at_none ys k x (omega arith)
 
+-- no name of the others is y
+none_at : (y : List ℕ) (ys : List (List ℕ)) (k : ℕ) → none_is y ys ≡ true → is_at ys k y ≡ true → ⊥
+none_at y [] k h e = grind arith
+none_at y (z ∷ ys) zero h e =
+    let p = and_parts (not (bytes_eq y z)) (none_is y ys) h in
+    let f : bytes_eq z y ≡ false = other_way y z (not-true (bytes_eq y z) p.0) in grind arith
+none_at y (z ∷ ys) (suc k) h e = none_at y ys k (and_parts (not (bytes_eq y z)) (none_is y ys) h).1 e
+
+-- where names stand apart, a name's number is the place where it stands
+pub number_at : (ys : List (List ℕ)) (k : ℕ) (x : List ℕ) → distinct ys ≡ true → is_at ys k x ≡ true → number ys x ≡ k
+number_at [] k x h e = absurd (grind arith)
+number_at (y ∷ ys) zero x h e = cond-true _ _ _ e
+number_at (y ∷ ys) (suc k) x h e = let p = and_parts (none_is y ys) (distinct ys) h in go (bytes_eq y x) refl p.0 (number_at ys k x p.1 e)
+  where
+    go : (b : Bool) → bytes_eq y x ≡ b → none_is y ys ≡ true → number ys x ≡ k → cond b 0 (suc (number ys x)) ≡ suc k
+    go true t n i = absurd (none_at x ys k (subst (λ (v : List ℕ). none_is v ys ≡ true) (same_is y x t) n) e)
+    go false t n i = ap suc i
+
+-- a name that stands nowhere has the number behind all
+pub number_none : (ys : List (List ℕ)) (x : List ℕ) → ((k : ℕ) → k < length ys → is_at ys k x ≡ false) → length ys ≡ number ys x
+number_none [] x h = refl
+number_none (y ∷ ys) x h = ap suc (number_none ys x (λ k l. h (suc k) (omega arith))) ∙ sym (cond-false _ _ _ (h 0 (omega arith)))
+
 module _ (names : List (List ℕ)) (bs : List ℕ) (x : List ℕ) (eb : bs ≡ map bucket_of_lem names) where
-  same_bucket : (y : List ℕ) → is x y ≡ true → eqb (bucket_of_lem x) (bucket_of_lem y) ≡ true
-  same_bucket y h = eq-eqb (bucket_of_lem x) (bucket_of_lem y) (ap bucket_of_lem (sym (same_is y x h)))
+  -- a name stands in no bucket but its own
+  pub elsewhere : (k : ℕ) → k < length names → (get_or bs k 0 ≡ bucket_of_lem x → is_at names k x ≡ false) → is_at names k x ≡ false
+  elsewhere k l h = go (is_at names k x) refl
+    where
+      go : (b : Bool) → is_at names k x ≡ b → b ≡ false
+      go false t = refl
+      go true t =
+          let y : get_or names k [] ≡ x = same_is (get_or names k []) x (sym (at_is names k x l) ∙ t) in
+          let e : get_or bs k 0 ≡ bucket_of_lem x = ap (λ (v : List ℕ). get_or v k 0) eb ∙ get_or-map bucket_of_lem names k [] 0 l ∙ ap bucket_of_lem y in
+          sym t ∙ h e
 
-  pub walk_start : (o : Option ℕ) (b : ℕ) → b ≡ bucket_of_lem x → o ≡ last_by (eqb b) bs → Chain (is x) names bs (bucket_of_lem x) o
-  walk_start o b e eo = chain_start (is x) bucket_of_lem names bs (bucket_of_lem x) o eb same_bucket (eo ∙ ap (λ (v : ℕ). last_by (eqb v) bs) e)
-
-  at_some : (o : Option ℕ) (k : ℕ) → o ≡ Some k → Chain (is x) names bs (bucket_of_lem x) o → Chain (is x) names bs (bucket_of_lem x) (Some k)
-  at_some o k e h = subst (Chain (is x) names bs (bucket_of_lem x)) e h
-
-  inside : (o : Option ℕ) (k : ℕ) → o ≡ Some k → Chain (is x) names bs (bucket_of_lem x) o → k < length names
-  inside o k e h =
-      let n = ap length eb ∙ length-map names bucket_of_lem in
-      let w = (at_some o k e h).1.0 in omega arith
-
-  pub walk_hit : (o : Option ℕ) (k : ℕ) → distinct names ≡ true → o ≡ Some k → Chain (is x) names bs (bucket_of_lem x) o → true ≡ is_at names k x → k ≡ number names x
-  walk_hit o k d e h t =
-      let hit = chain_hit (is x) bucket_of_lem names bs (bucket_of_lem x) k [] eb (at_some o k e h) (sym (at_is names k x (inside o k e h)) ∙ sym t) in
-      sym (subst (λ (o : Option ℕ). Numbered o (number names x) (length names)) hit (found x names d))
-
-  pub walk_next : (o : Option ℕ) (k : ℕ) (o' : Option ℕ) → o ≡ Some k → Chain (is x) names bs (bucket_of_lem x) o → false ≡ is_at names k x → o' ≡ earlier bs k
-      → Chain (is x) names bs (bucket_of_lem x) o' × (up_to o' < up_to o)
-  walk_next o k o' e h t q =
-      let n = chain_next (is x) bucket_of_lem names bs (bucket_of_lem x) k [] o' eb same_bucket (at_some o k e h) (sym (at_is names k x (inside o k e h)) ∙ sym t) q in
-      let u : up_to o ≡ suc k = ap up_to e in
-      let v = n.1 in (n.0, omega arith)
-
-  pub walk_end : (o : Option ℕ) → distinct names ≡ true → o ≡ None → Chain (is x) names bs (bucket_of_lem x) o → length names ≡ number names x
-  walk_end o d e h =
-      let none = chain_end (is x) bucket_of_lem names bs (bucket_of_lem x) (subst (Chain (is x) names bs (bucket_of_lem x)) e h) in
-      sym (subst (λ (o : Option ℕ). Numbered o (number names x) (length names)) none (found x names d))
+  -- what the chains find is the name's number, where the test tells whether a name is x
+  pub found : distinct names ≡ true → (b : ℕ) → b ≡ bucket_of_lem x → (answers : ℕ → Bool → Type 0) → ((i : ℕ) (t : Bool) → answers i t → t ≡ is_at names i x)
+      → (o : Option ℕ) → IfSome o (IsLastPassing bs b answers) → IfNone o (AllFailFrom bs b answers 0) → unwrap_or o (length names) ≡ number names x
+  found d b e answers tells (Some i) h n = sym (number_at names i x d (sym (tells i true h.passes)))
+  found d b e answers tells None h n =
+      let m = ap length eb ∙ length-map names bucket_of_lem in
+      number_none names x (λ k l. elsewhere k l (λ q. sym (tells k false (n k (omega arith) (omega arith) (q ∙ sym e)))))
 
 -- ---- the loop of the hash
 pub mixed_more : (h k : ℕ) (x : List ℕ) (i : ℕ) → i < length x → k ≡ mix h (get_or x i 0) → mixed k (drop (i + 1) x) ≡ mixed h (drop i x)
@@ -141,17 +124,18 @@ pub mixed_all : (h : ℕ) (x : List ℕ) (i : ℕ) → length x ≤ i → mixed 
 mixed_all h x i l = at_drop_all (mixed h) x i l
 
 -- ---- what the chains and the names are after one more, and after fewer
-pub table_push : (names names' : List (List ℕ)) (bs bs' : List ℕ) (x : List ℕ) (b w room : ℕ) (r : Bool) → bs ≡ map bucket_of_lem names → names' ≡ names ++ x ∷ [] → b ≡ bucket_of_lem x
-    → r ≡ (ltb b w && ltb (length bs) room) → b < w → length names < room → bs' ≡ cond r (bs ++ b ∷ []) bs → distinct names ≡ true → length names ≤ number names x
-    → (bs' ≡ map bucket_of_lem names') × (distinct names' ≡ true)
-table_push names names' bs bs' x b w room r eb en ex er lb ln es d l =
+pub table_push : (names names' : List (List ℕ)) (c c' : Entries) (x : List ℕ) (b : ℕ) (r : Result (Unit {0}) PushError) → c.buckets ≡ map bucket_of_lem names → names' ≡ names ++ x ∷ []
+    → b ≡ bucket_of_lem x → r ≡ cond (ltb b c.width) (cond (ltb (length c.buckets) c.room) (Ok tt) (Err Full)) (Err NoBucket) → b < c.width → length names < c.room
+    → c' ≡ with_buckets c (cond (is_ok r) (c.buckets ++ b ∷ []) c.buckets) → distinct names ≡ true → length names ≤ number names x
+    → (c' ≡ with_buckets c (map bucket_of_lem names')) × (distinct names' ≡ true)
+table_push names names' c c' x b r eb en ex er lb ln es d l =
     let n = ap length eb ∙ length-map names bucket_of_lem in
-    let t : r ≡ true = er ∙ and_from (ltb b w) (ltb (length bs) room) (lt-ltb b w lb) (lt-ltb (length bs) room (omega arith)) in (
-      es ∙ cond-true r _ _ t ∙ ap (λ (v : ℕ). bs ++ v ∷ []) ex ∙ ap (λ (v : List ℕ). v ++ bucket_of_lem x ∷ []) eb ∙ sym (map_push bucket_of_lem names x) ∙ ap (map bucket_of_lem) (sym en),
-      ap distinct en ∙ distinct_push names x d l,
-    )
+    let t : r ≡ Ok tt = er ∙ cond-true _ _ _ (lt-ltb b c.width lb) ∙ cond-true _ _ _ (lt-ltb (length c.buckets) c.room (omega arith)) in
+    let bs : cond (is_ok r) (c.buckets ++ b ∷ []) c.buckets ≡ map bucket_of_lem names' =
+    cond-true (is_ok r) _ _ (ap is_ok t) ∙ ap (λ (v : ℕ). c.buckets ++ v ∷ []) ex ∙ ap (λ (v : List ℕ). v ++ bucket_of_lem x ∷ []) eb ∙ sym (map_push bucket_of_lem names x) ∙ ap (map bucket_of_lem) (sym en) in
+    (es ∙ ap (with_buckets c) bs, ap distinct en ∙ distinct_push names x d l)
 
-pub table_take : (names names' : List (List ℕ)) (bs bs' : List ℕ) (n : ℕ) → bs ≡ map bucket_of_lem names → names' ≡ take n names → bs' ≡ take n bs → distinct names ≡ true
-    → (bs' ≡ map bucket_of_lem names') × (distinct names' ≡ true)
-table_take names names' bs bs' n eb en es d =
-    (es ∙ ap (take n) eb ∙ take-map bucket_of_lem n names ∙ ap (map bucket_of_lem) (sym en), ap distinct en ∙ distinct_take n names d)
+pub table_take : (names names' : List (List ℕ)) (c c' : Entries) (n : ℕ) → c.buckets ≡ map bucket_of_lem names → names' ≡ take n names → c' ≡ with_buckets c (take n c.buckets)
+    → distinct names ≡ true → (c' ≡ with_buckets c (map bucket_of_lem names')) × (distinct names' ≡ true)
+table_take names names' c c' n eb en es d =
+    (es ∙ ap (with_buckets c) (ap (take n) eb ∙ take-map bucket_of_lem n names ∙ ap (map bucket_of_lem) (sym en)), ap distinct en ∙ distinct_take n names d)

@@ -3,11 +3,10 @@
 
 ghost use Rattle.std.specs.Prelude.{◌≡◌, ℕ, ◌<◌, true, List, [], length, take, IfOk, slice_index_or};
 ghost use Rattle.std.specs.Option.{option_map};
-ghost use Rattle.names.specs.Numbers.{number, name_at, number_or_none, names_after};
+ghost use Rattle.names.specs.Numbers.{number, name_at, number_or_none, names_after, is_at};
 ghost use Rattle.names.specs.Held.{names_in, limit_of};
 ghost use Rattle.names.specs.Distinct.{distinct};
 ghost use Rattle.names.specs.Hash.{mix, bucket_of_lem};
-ghost use Rattle.names.specs.Numbers.{is_at};
 
 use chains::Chains;
 use part::Part;
@@ -22,6 +21,7 @@ pub use part::NoNumber;
 pub use table::NameTable;
 pub use tables::Names;
 
+// Kept here and in words: neither crate stands on the other, and each has the limit in its own definitions.
 const NAME_BYTES: usize = 32;
 
 const BUCKETS: usize = 4096;
@@ -82,10 +82,11 @@ impl NameTable {
     }
 
     /// The name with a number.
+    #[tactic(auto, using(crate::proofs::Laws::unnamed))]
     pub fn name(&self, k: usize) -> Option<&[u8]>
         ensures { option_map (λ x. x.now) result ≡ name_at (names_in self.now) k }
     {
-        if k < self.parts.len() {
+        if k < self.len() {
             Some(self.part(k))
         } else {
             None
@@ -95,25 +96,16 @@ impl NameTable {
     fn is_name(&self, k: usize, name: &[u8]) -> bool
         ensures { result ≡ is_at (names_in self.now) k name.now }
     {
-        if k < self.parts.len() {
-            self.part(k) == name
-        } else {
-            false
-        }
+        k < self.len() && self.part(k) == name
     }
 
     /// The number of a name, or the one that it would get.
     pub fn number(&self, name: &[u8]) -> usize
         ensures { result ≡ number (names_in self.now) name.now }
     {
-        let mut at = self.chains.last(bucket_of(name));
-        while let Some(k) = at {
-            if self.is_name(k, name) {
-                return k;
-            }
-            at = self.chains.before(k);
-        }
-        self.parts.len()
+        self.chains
+            .find(bucket_of(name), |k| self.is_name(k, name))
+            .unwrap_or(self.len())
     }
 
     /// The number of a name, which is added where it is new.
@@ -126,7 +118,7 @@ impl NameTable {
             return Err(NoNumber::Full);
         }
         let n = self.number(name);
-        if n < self.parts.len() {
+        if n < self.len() {
             return Ok(n);
         }
         if n >= self.limit {
@@ -145,7 +137,7 @@ impl NameTable {
         ensures names { names_in self.new ≡ take n (names_in self.old) }
         ensures limit { limit_of self.new ≡ limit_of self.old }
     {
-        if n < self.parts.len() {
+        if n < self.len() {
             let start = self.parts[n].start;
             self.bytes.truncate(start);
             self.parts.truncate(n);

@@ -27,10 +27,8 @@ impl Names {
         ensures nodes { nodes_in self.new ≡ names_after 1024 (nodes_in self.old) name.now }
         ensures atoms { atoms_in self.new ≡ atoms_in self.old }
     {
-        match self.nodes.intern(name) {
-            Ok(n) => Ok(Node(n as u16)),
-            Err(e) => Err(e),
-        }
+        let n = self.nodes.intern(name)?;
+        Ok(Node(n as u16))
     }
 
     /// The atom of a name, which is numbered where it is new.
@@ -39,10 +37,8 @@ impl Names {
         ensures nodes { nodes_in self.new ≡ nodes_in self.old }
         ensures atoms { atoms_in self.new ≡ names_after 4096 (atoms_in self.old) name.now }
     {
-        match self.atoms.intern(name) {
-            Ok(n) => Ok(Atom(n as u16)),
-            Err(e) => Err(e),
-        }
+        let n = self.atoms.intern(name)?;
+        Ok(Atom(n as u16))
     }
 
     pub fn node_name(&self, node: Node) -> Option<&[u8]>

@@ -1,13 +1,13 @@
 // Where a name stands in the table's bytes, and the refusal of a name.
 
-#[derive(Clone, Copy)]
+#[derive(Clone, Copy, Debug, PartialEq, Eq)]
 pub struct Part {
     pub start: usize,
     pub len: usize,
 }
 
 /// Why a name has no number.
-#[derive(Clone, Copy, Debug, PartialEq)]
+#[derive(Clone, Copy, Debug, PartialEq, Eq)]
 pub enum NoNumber {
     /// The table has as many names as it may have.
     Full,

@@ -20,11 +20,7 @@ pub struct Pile<S> {
 fn longer(a: Option<usize>, b: Option<usize>) -> Option<usize>
     ensures { result ≡ larger a b }
 {
-    match (a, b) {
-        (None, b) => b,
-        (Some(x), None) => Some(x),
-        (Some(x), Some(y)) => Some(x.max(y)),
-    }
+    a.max(b)
 }
 
 impl<S: Store> Store for Pile<S> {

@@ -9,20 +9,35 @@ use tree::PrefixTree;
 
 type Answer = Result<(), Refusal>;
 
+// How many atoms the left path of a sentence has, and how many items its right side.
+#[derive(Clone, Copy)]
+struct Size {
+    atoms: usize,
+    items: usize,
+}
+
+fn of_atoms(atoms: usize) -> Size {
+    Size { atoms, items: 0 }
+}
+
+fn of_items(items: usize) -> Size {
+    Size { atoms: 0, items }
+}
+
 // Adds sentence i of those with so many atoms and items: 1,024 nodes have one each, then another, and so on.
-fn put<K: Keeper>(keeper: &mut K, i: u16, atoms: usize, items: usize) -> Answer {
+fn put<K: Keeper>(keeper: &mut K, i: u16, size: Size) -> Answer {
     let left = [Atom(i / 1024); 40];
     let right = [Item::Atom(Atom(i / 1024)); 80];
-    let atoms = atoms.min(40);
-    let items = items.min(80);
+    let atoms = size.atoms.min(40);
+    let items = size.items.min(80);
     keeper.add(Node(i % 1024), &left[0..atoms], &right[0..items])
 }
 
 // Adds so many, and answers the last refusal.
-fn put_all<K: Keeper>(keeper: &mut K, count: u16, atoms: usize, items: usize) -> Answer {
+fn put_all<K: Keeper>(keeper: &mut K, count: u16, size: Size) -> Answer {
     let mut all = Ok(());
     for i in 0..count {
-        if let Err(refusal) = put(keeper, i, atoms, items) {
+        if let Err(refusal) = put(keeper, i, size) {
             all = Err(refusal);
         }
     }
@@ -32,33 +47,21 @@ fn put_all<K: Keeper>(keeper: &mut K, count: u16, atoms: usize, items: usize) ->
 fn sentences<K: Keeper>(keeper: &mut K, most: u16) -> [Answer; 3] {
     keeper.clear();
     let before = most.saturating_sub(1);
-    let a = put_all(keeper, before, 1, 0);
-    let b = put(keeper, before, 1, 0);
-    let c = put(keeper, most, 1, 0);
+    let a = put_all(keeper, before, of_atoms(1));
+    let b = put(keeper, before, of_atoms(1));
+    let c = put(keeper, most, of_atoms(1));
     [a, b, c]
 }
 
-// So many sentences of 32 atoms, the last with 31; then two of one atom, and one of none.
-fn atoms<K: Keeper>(keeper: &mut K, most: u16) -> [Answer; 5] {
+// So many sentences of some size but the last, that one, two more of one atom or item, and one of none.
+fn full<K: Keeper>(keeper: &mut K, most: u16, each: Size, last: Size, one: Size) -> [Answer; 5] {
     keeper.clear();
     let before = most.saturating_sub(1);
-    let a = put_all(keeper, before, 32, 0);
-    let b = put(keeper, before, 31, 0);
-    let c = put(keeper, 1000, 1, 0);
-    let d = put(keeper, 1001, 1, 0);
-    let e = put(keeper, 1002, 0, 0);
-    [a, b, c, d, e]
-}
-
-// So many sentences of 64 items, the last with 63; then two of one item, and one of none.
-fn items<K: Keeper>(keeper: &mut K, most: u16) -> [Answer; 5] {
-    keeper.clear();
-    let before = most.saturating_sub(1);
-    let a = put_all(keeper, before, 0, 64);
-    let b = put(keeper, before, 0, 63);
-    let c = put(keeper, 1000, 0, 1);
-    let d = put(keeper, 1001, 0, 1);
-    let e = put(keeper, 1002, 0, 0);
+    let a = put_all(keeper, before, each);
+    let b = put(keeper, before, last);
+    let c = put(keeper, 1000, one);
+    let d = put(keeper, 1001, one);
+    let e = put(keeper, 1002, of_atoms(0));
     [a, b, c, d, e]
 }
 
@@ -92,13 +95,14 @@ fn has(rt: &HostRuntime, name: &str, answers: [bool; 3]) -> anyhow::Result<()> {
 
 // Full, emptied, and filled again.
 fn again<K: Keeper>(rt: &HostRuntime, keeper: &mut K, most: u16) -> anyhow::Result<()> {
+    let one_of_each = Size { atoms: 1, items: 1 };
     keeper.clear();
-    let first = put_all(keeper, most, 1, 1);
+    let first = put_all(keeper, most, one_of_each);
     has(rt, "full", seven(keeper))?;
     keeper.clear();
     has(rt, "emptied", seven(keeper))?;
-    let second = put_all(keeper, most, 1, 1);
-    let one_more = put(keeper, most, 1, 1);
+    let second = put_all(keeper, most, one_of_each);
+    let one_more = put(keeper, most, one_of_each);
     has(rt, "full again", seven(keeper))?;
     line(rt, "full, full again, one more", &[first, second, one_more])
 }
@@ -118,12 +122,12 @@ fn all<K: Keeper>(
     line(
         rt,
         "32 atoms each, the last 31, then one, one more, none",
-        &atoms(keeper, most_atoms),
+        &full(keeper, most_atoms, of_atoms(32), of_atoms(31), of_atoms(1)),
     )?;
     line(
         rt,
         "64 items each, the last 63, then one, one more, none",
-        &items(keeper, most_items),
+        &full(keeper, most_items, of_items(64), of_items(63), of_items(1)),
     )?;
     again(rt, keeper, most)
 }

@@ -1,6 +1,6 @@
 -- The tree finds what is kept: one sentence more.
-use Rattle.std.proofs.Common.{◌≡◌, ℕ, ◌+◌, ◌≤◌, true, false, not, eqb, ltb, List, [], ◌∷◌, ◌++◌, map, length, is_some, Some, None, Option, sym, refl, ap, ◌∙◌, ⊎_elim, arith}
-use Rattle.std.proofs.lemmas.Bool.{eq-eqb, and_from, cases_Bool, lt-ltb, not-true}
+use Rattle.std.proofs.Common.{◌≡◌, ℕ, ◌+◌, ◌<◌, ◌≤◌, true, false, eqb, List, [], ◌∷◌, ◌++◌, map, length, is_some, Some, None, Option, sym, refl, ap, ◌∙◌, ⊎_elim, arith}
+use Rattle.std.proofs.lemmas.Bool.{eq-eqb, and_from, cases_Bool}
 use Rattle.terms.specs.declared.items.Node.{Node}
 use Rattle.terms.specs.declared.items.Atom.{Atom}
 use Rattle.terms.specs.Maps.{same_atoms}
@@ -59,10 +59,12 @@ tied_more L L' ss ss' s k tied there elsewhere ek es fresh n l =
     ∙ sym (ap (λ x. up_to (first_by (is_pair n l) x)) es)
 
 -- there is memory for the edges
-pub takes : (most room : Room) (ss : List Sentence) (a i e r : ℕ) → true ≡ not (passes (smaller most room) ss a i) → e ≤ length ss + atoms_in ss → room.sentences ≡ 2048 → room.atoms ≡ 8192 → r ≡ 10240
-    → ltb (e + a) r ≡ true
-takes most room ss a i e r h p x y z =
-    let v = within_smaller most room ss a i (within (smaller most room) ss a i (not-true (passes (smaller most room) ss a i) (sym h))) in
+pub takes : (most room : Room) (ss : List Sentence) (a i e r : ℕ) → passes (smaller most room) ss a i ≡ false → e ≤ length ss + atoms_in ss → room ≡ record { sentences = 2048; atoms = 8192; items = 32768 } → r ≡ 10240
+    → e + a < r
+takes most room ss a i e r h p x z =
+    let v = within_smaller most room ss a i (within (smaller most room) ss a i h) in
     let s = v.sentences in
     let t = v.atoms in
-    lt-ltb (e + a) r (omega arith)
+    let xs = ap (λ (k : Room). k.sentences) x in
+    let xa = ap (λ (k : Room). k.atoms) x in
+    omega arith

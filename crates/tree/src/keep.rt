@@ -1,8 +1,9 @@
 // The calls.
-ghost use Rattle.std.specs.Prelude.{◌≡◌, true, false, not, [], ◌∷◌, ◌++◌, length, is_some, IfOk, if◌then◌else◌, Some};
+ghost use Rattle.std.specs.Prelude.{◌≡◌, true, false, [], ◌∷◌, ◌++◌, length, is_some, is_ok, IfOk, Ok, Err, if◌then◌else◌, Some};
 ghost use Rattle.stores.specs.Sentences.{map_of, sentence};
 ghost use Rattle.stores.specs.Refusals.{fits};
-ghost use Rattle.kept.specs.Held.{passes, smaller};
+ghost use Rattle.stores.specs.declared.refusals.Refusal.{Refusal as Refused};
+ghost use Rattle.kept.specs.Held.{room_in, passes, smaller};
 ghost use Rattle.trie.specs.Ways.{mark_at_lem};
 ghost use Rattle.trie.specs.Held.{marks_in};
 ghost use Rattle.tree.specs.Held.{kept_in, meaning_in, limits_of};
@@ -11,7 +12,7 @@ ghost use Rattle.std.proofs.Common.{refl};
 use super::PrefixTree;
 use kept::{Kept, Room};
 use std::alloc::{AllocError, Global};
-use stores::fitness::refused_anywhere;
+use stores::fitness::check_fitness;
 use stores::{Keeper, Refusal, Store};
 use terms::{Atom, Item, Node};
 use trie::Trie;
@@ -41,10 +42,7 @@ impl PrefixTree {
     fn better(&self, best: Option<usize>, at: Option<usize>, len: usize) -> Option<usize>
         ensures { result ≡ (if is_some (mark_at_lem (marks_in self.now.trie) at) then Some len else best) }
     {
-        match self.trie.mark_at(at) {
-            None => best,
-            Some(_) => Some(len),
-        }
+        self.trie.mark_at(at).map(|_| len).or(best)
     }
 
     // Whether a node and a left path have a sentence.
@@ -54,18 +52,18 @@ impl PrefixTree {
         self.trie.mark_of(node, left).is_some()
     }
 
-    // Keeps one sentence more, and answers true, unless one of the limits given would be passed.
-    fn put(&mut self, most: Room, node: Node, left: &[Atom], right: &[Item]) -> bool
+    // Keeps one sentence more, unless one of the limits given would be passed.
+    fn put(&mut self, most: Room, node: Node, left: &[Atom], right: &[Item]) -> Result<(), Refusal>
         requires fit { fits (sentence node left.now right.now) ≡ true }
         requires fresh { is_some (map_of (kept_in self.old) node left.now) ≡ false }
-        ensures gives { result ≡ not (passes (smaller most self.old.kept.room) (kept_in self.old) (length left.now) (length right.now)) }
-        ensures kept { kept_in self.new ≡ (if result then kept_in self.old ++ sentence node left.now right.now ∷ [] else kept_in self.old) }
+        ensures gives { result ≡ (if passes (smaller most (room_in self.old.kept)) (kept_in self.old) (length left.now) (length right.now) then Err Refused.Full else Ok tt) }
+        ensures kept { kept_in self.new ≡ (if is_ok result then kept_in self.old ++ sentence node left.now right.now ∷ [] else kept_in self.old) }
     {
         let number = self.kept.sentences();
-        if !self.kept.put(most, node, left, right) {
-            return false;
-        }
-        self.trie.insert(node, left, number)
+        self.kept.put(most, node, left, right)?;
+        self.trie
+            .insert(node, left, number)
+            .map_err(|_| Refusal::Full)
     }
 }
 
@@ -75,9 +73,9 @@ impl Store for PrefixTree {
     fn find(&self, node: Node, path: &[Atom]) -> Option<usize> {
         let mut at = self.trie.step(Some(0), node.0);
         let mut best = self.better(None, at, 0);
-        for i in 0..path.len() {
-            at = self.trie.step(at, path[i].0);
-            if let None = at {
+        for (i, atom) in path.iter().enumerate() {
+            at = self.trie.step(at, atom.0);
+            if at.is_none() {
                 return best;
             }
             best = self.better(best, at, i + 1);
@@ -86,10 +84,8 @@ impl Store for PrefixTree {
     }
 
     fn item(&self, node: Node, left: &[Atom], k: usize) -> Option<Item> {
-        match self.trie.mark_of(node, left) {
-            None => None,
-            Some(number) => self.kept.item_of(number, k),
-        }
+        let number = self.trie.mark_of(node, left)?;
+        self.kept.item_of(number, k)
     }
 }
 
@@ -112,16 +108,10 @@ impl Keeper for PrefixTree {
     }
 
     fn add(&mut self, node: Node, left: &[Atom], right: &[Item]) -> Result<(), Refusal> {
-        if let Some(refusal) = refused_anywhere(node, left, right) {
-            return Err(refusal);
-        }
+        check_fitness(node, left, right)?;
         if self.has(node, left) {
             return Err(Refusal::AlreadyKept);
         }
-        if self.put(Self::most(), node, left, right) {
-            Ok(())
-        } else {
-            Err(Refusal::Full)
-        }
+        self.put(Self::most(), node, left, right)
     }
 }

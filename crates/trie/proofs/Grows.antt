@@ -210,16 +210,13 @@ mark_past ms t l = by (eqb t 0)
     by false = get_or_past ms (t - 1) None l
 
 -- ---- what `make_child` leaves
-pub made_parts : (es es' : List Edge) (ms ms' : List (Option ℕ)) (bs bs' : List ℕ) (p a x : ℕ)
-    → es' ≡ es ++ edge p a ∷ [] → ms' ≡ ms ++ None ∷ [] → bs' ≡ bs ++ x ∷ [] → x ≡ bucket p a → bs ≡ map bucket_of_lem es → length ms ≡ length es → Rising es → p ≤ length es
-    → (length ms' ≡ length es') × (bs' ≡ map bucket_of_lem es') × Rising es'
-made_parts es es' ms ms' bs bs' p a x ee em eb ex hb hm hr hp =
-    let n = ap length ee ∙ length_push es (edge p a) in
-    let m = ap length em ∙ length_push ms None in (
-      omega arith,
-      eb ∙ ap (λ v. bs ++ v ∷ []) ex ∙ ap (λ v. v ++ bucket p a ∷ []) hb ∙ sym (map_push bucket_of_lem es (edge p a)) ∙ ap (map bucket_of_lem) (sym ee),
-      subst Rising (sym ee) (rising_more es p a hr hp),
-    )
+pub made_parts : (es es' : List Edge) (bs bs' : List ℕ) (p a x : ℕ)
+    → es' ≡ es ++ edge p a ∷ [] → bs' ≡ bs ++ x ∷ [] → x ≡ bucket p a → bs ≡ map bucket_of_lem es → Rising es → p ≤ length es
+    → (bs' ≡ map bucket_of_lem es') × Rising es'
+made_parts es es' bs bs' p a x ee eb ex hb hr hp = (
+  eb ∙ ap (λ v. bs ++ v ∷ []) ex ∙ ap (λ v. v ++ bucket p a ∷ []) hb ∙ sym (map_push bucket_of_lem es (edge p a)) ∙ ap (map bucket_of_lem) (sym ee),
+  subst Rising (sym ee) (rising_more es p a hr hp),
+)
 
 pub made_leads : (es es' : List Edge) (ms ms' : List (Option ℕ)) (p a n : ℕ)
     → es' ≡ es ++ edge p a ∷ [] → ms' ≡ ms ++ None ∷ [] → n ≡ length es' → None ≡ child_of es p a → length ms ≡ length es → Rising es → p ≤ length es

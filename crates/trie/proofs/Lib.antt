@@ -1,3 +1,4 @@
 pub mod Childs
 pub mod Grows
 pub mod Steps
+pub mod Inserts

@@ -1,9 +1,17 @@
 -- Places of a tree: 0 is the top, and i + 1 is where edge i leads. An edge has the place it comes from and a label.
-use Rattle.std.specs.Prelude.{ℕ, suc, ◌+◌, ◌-◌, ◌*◌, ◌/◌, ◌%◌, ◌<◌, ◌≤◌, Bool, cond, ◌&&◌, List, [], ◌∷◌, map, length, get_or, Some, None, Option, ◌==◌, slice_index_or}
+use Rattle.std.specs.Prelude.{ℕ, suc, ◌+◌, ◌-◌, ◌*◌, ◌/◌, ◌%◌, ◌<◌, ◌≤◌, Bool, cond, ◌&&◌, List, ◌∷◌, map, length, get_or, Some, None, Option, ◌==◌, slice_index_or}
+use Rattle.std.specs.List.{fold}
 use Rattle.terms.specs.declared.items.Node.{Node}
 use Rattle.terms.specs.declared.items.Atom.{Atom}
 use Rattle.chains.specs.Last.{last_by}
 use Rattle.trie.specs.declared.Edge.{Edge}
+use Rattle.trie.specs.declared.Place.{Place}
+
+abbrev pub edge_of : Place → Edge
+edge_of p = p.edge
+
+abbrev pub mark_of_lem : Place → Option ℕ
+mark_of_lem p = p.mark
 
 abbrev pub blank : Edge
 blank = record { parent = 0; label = 0 }
@@ -35,8 +43,7 @@ go es None a = None
 go es (Some p) a = child_of es p a
 
 abbrev pub walk : List Edge → Option ℕ → List ℕ → Option ℕ
-walk es o [] = o
-walk es o (a ∷ w) = walk es (go es o a) w
+walk es o w = fold (go es) o w
 
 -- the mark at a place; the top has none
 abbrev pub mark_at_lem : List (Option ℕ) → Option ℕ → Option ℕ

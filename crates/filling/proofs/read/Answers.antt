@@ -1,37 +1,25 @@
-use Rattle.std.proofs.Common.{◌<◌, length, ◌∙◌, arith, length-set}
+use Rattle.std.proofs.Common.{◌<◌, length, length-set, ◌∙◌, arith}
+use Rattle.std.proofs.lemmas.List.{take-set}
 use Rattle.stores.specs.Items.{items_of}
-use Rattle.filling.proofs.RightSides.{item_within, read_more, read_all}
+use Rattle.filling.proofs.RightSides.{item_some, items_few, read_more, read_all, read_full}
 use Rattle.filling.proofs.read.Goals as goal
 
-pub offset_bounds-into-n : goal.offset_bounds-into-n
-offset_bounds-into-n g c = let w = (item_within (g.S.Store.means c.args.store.now) c.args.node c.args.left.now c.loop-item.n c.in-Some.item c.in-Some.ensures).1 in omega arith
-
-pub bounds-into-n : goal.bounds-into-n
-bounds-into-n g c = (item_within (g.S.Store.means c.args.store.now) c.args.node c.args.left.now c.loop-item.n c.in-Some.item c.in-Some.ensures).1
-
-pub overflow_add-n : goal.overflow_add-n
-overflow_add-n g c = let w = (item_within (g.S.Store.means c.args.store.now) c.args.node c.args.left.now c.loop-item.n c.in-Some.item c.in-Some.ensures).1 in omega arith
-
-pub loop-item-smaller : goal.loop-item-smaller
-loop-item-smaller g c = let w = (item_within (g.S.Store.means c.args.store.now) c.args.node c.args.left.now c.loop-item.n c.in-Some.item c.in-Some.ensures).0 in omega arith
-
-pub loop-item-preserved : goal.loop-item-preserved
-loop-item-preserved g c =
+pub returns-in-None-clause-items : goal.returns-in-None-clause-items
+returns-in-None-clause-items g c =
     let m = g.S.Store.means c.args.store.now in
-    let v = c.loop-item.invariant in
-    let q = v.2 in
-    let w = item_within m c.args.node c.args.left.now c.loop-item.n c.in-Some.item c.in-Some.ensures in
-    let a = w.0 in
-    let b = w.1 in
-    let l : c.loop-item.n < length c.loop-item.into = omega arith in (
-      read_more (items_of (m.map c.args.node c.args.left.now)) c.loop-item.into c.loop-item.n c.in-Some.item c.in-Some.ensures l v.0,
-      omega arith,
-      length-set c.loop-item.into c.loop-item.n c.in-Some.item ∙ v.2,
-    )
+    take-set c.loop-n.into c.loop-n.n _ ∙ (read_all (items_of (m.map c.args.node c.args.left.now)) c.loop-n.into c.loop-n.n c.in-None.ensures c.loop-n.invariant.1 c.loop-n.invariant.0).1
+
+pub loop-n-preserved : goal.loop-n-preserved
+loop-n-preserved g c =
+    let m = g.S.Store.means c.args.store.now in
+    let p = item_some (items_of (m.map c.args.node c.args.left.now)) c.loop-n.n c.in-Some.item c.in-Some.item c.in-Some.ensures in
+    let k = p.0 in
+    let q = c.loop-n.invariant.2 in
+    let l : c.loop-n.n < length c.loop-n.into = omega arith in
+    (read_more (items_of (m.map c.args.node c.args.left.now)) c.loop-n.into c.loop-n.n c.in-Some.item c.in-Some.ensures l c.loop-n.invariant.0, omega arith, length-set c.loop-n.into c.loop-n.n _ ∙ q)
 
 pub returns : goal.returns
 returns g c =
     let m = g.S.Store.means c.args.store.now in
-    let v = c.loop-item.invariant in
-    let p = read_all (items_of (m.map c.args.node c.args.left.now)) c.loop-item.into c.loop-item.n c.in_default.ensures v.1 v.0 in
+    let p = read_full (items_of (m.map c.args.node c.args.left.now)) c.loop-n.into c.loop-n.n (items_few m c.args.node c.args.left.now) (omega arith) c.loop-n.invariant.1 c.loop-n.invariant.0 in
     record { len = p.0; items = p.1 }

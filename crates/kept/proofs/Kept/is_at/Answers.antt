@@ -1,27 +1,23 @@
-use Rattle.std.proofs.Common.{◌+◌, ◌<◌, ◌≤◌, length, vec_items, sym, ap, ◌∙◌, subst, arith}
-use Rattle.std.proofs.lemmas.List.{get_or_read}
-use Rattle.kept.specs.declared.Record.{Record}
-use Rattle.kept.specs.Held.{of_pair}
-use Rattle.kept.specs.Parts.{blank}
-use Rattle.kept.proofs.Looks.{sentence_at, sentence_past}
+use Rattle.std.proofs.Common.{vec_items, ap, ◌∙◌}
+use Rattle.std.proofs.lemmas.Slice.Eq.{slice_eq-Decides}
+use Rattle.terms.proofs.Equality.{atom_eq_decides}
+use Rattle.kept.specs.Held.{kept_in}
+use Rattle.kept.specs.Parts.{part_of}
+use Rattle.kept.proofs.Looks.{pair_past, pair_of_other_node, pair_of_node}
 use Rattle.kept.proofs.Kept.is_at.Goals as goal
 
-pub record_is-requires : goal.record_is-requires
-record_is-requires c =
-    let s = c.args.self.now in
-    let l : c.args.number < length (vec_items s.records) = omega arith in
-    let e = get_or_read (vec_items s.records) c.args.number c.index.result.now l c.index.ensures blank in
-    let h : c.index.result.now.left_at + c.index.result.now.left_len ≤ length (vec_items s.atoms) = subst (λ (r : Record). r.left_at + r.left_len ≤ length (vec_items s.atoms)) (sym e) (s.inside c.args.number l).0 in
-    omega arith
+pub returns-then-eq : goal.returns-then-eq
+returns-then-eq c =
+    let k = c.self.inside in
+    pair_of_node _ _ (vec_items k.atoms) (vec_items k.items) _ c.args.number c.args.node c.args.left.now c.deref.ensures.value (ap kept_in c.self.view_is) c.in-Some.record.now c.in-Some.ensures.lookup.3.0 c.in-Some.ensures.lookup.1 c.of.result.now c.eq-then-eq.result c.if-eq.ensures
+    (c.of.ensures ∙ ap (λ v. part_of v c.in-Some.record.now.left) c.deref-then-eq.ensures.value) (slice_eq-Decides atom_eq_decides c.args.left.now c.of.result.now c.eq-then-eq.result c.eq-then-eq.ensures)
 
-pub returns-then-number-len : goal.returns-then-number-len
-returns-then-number-len c =
-    let s = c.args.self.now in
-    let l : c.args.number < length (vec_items s.records) = omega arith in
-    c.record_is.ensures ∙ ap (λ o. of_pair o c.args.node c.args.left.now) (sym (sentence_at (vec_items s.records) (vec_items s.atoms) (vec_items s.items) c.args.number c.index.result.now l c.index.ensures))
+pub returns-else-eq : goal.returns-else-eq
+returns-else-eq c =
+    let k = c.self.inside in
+    c.if-eq.false ∙ pair_of_other_node _ _ (vec_items k.atoms) (vec_items k.items) _ c.args.number c.args.node c.args.left.now c.deref.ensures.value (ap kept_in c.self.view_is) c.in-Some.record.now c.in-Some.ensures.lookup.3.0 c.in-Some.ensures.lookup.1 c.if-eq.ensures
 
-pub returns-else-number-len : goal.returns-else-number-len
-returns-else-number-len c =
-    let s = c.args.self.now in
-    let l : length (vec_items s.records) ≤ c.args.number = omega arith in
-    ap (λ o. of_pair o c.args.node c.args.left.now) (sym (sentence_past (vec_items s.records) (vec_items s.atoms) (vec_items s.items) c.args.number l))
+pub returns-in-None : goal.returns-in-None
+returns-in-None c =
+    let k = c.self.inside in
+    pair_past _ _ (vec_items k.atoms) (vec_items k.items) _ c.args.number c.args.node c.args.left.now c.deref.ensures.value (ap kept_in c.self.view_is) c.in-None.ensures.lookup.3

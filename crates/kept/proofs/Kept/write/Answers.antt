@@ -1,16 +1,14 @@
-use Rattle.std.proofs.Common.{◌≡◌, ◌++◌, length, vec_items, refl, ap, ◌∙◌, arith, length-append, rules}
-use lib.ListN.{length-map}
+use Rattle.std.proofs.Common.{◌≡◌, ◌++◌, length, vec_items, ap, ◌∙◌, arith, length-append, rules}
 use Rattle.stores.specs.Sentences.{atoms_in, items_in, sentence}
 use Rattle.stores.proofs.Keeps.{atoms_push, items_push}
-use Rattle.kept.specs.Parts.{sentences, sentence_of}
-use Rattle.kept.specs.Held.{kept_in}
-use Rattle.kept.proofs.Rooms.{within}
+use Rattle.kept.specs.Contents.{with_sentences}
+use Rattle.kept.specs.Parts.{sentences}
 use Rattle.kept.proofs.Adds.{put_leaves}
 use Rattle.kept.proofs.Kept.write.Goals as goal
 
 pub invariant_of-self : goal.invariant_of-self
 invariant_of-self c =
-    let s = c.args.self.now in
+    let s = c.self.inside in
     let rs = vec_items s.records in
     let bs = vec_items s.atoms in
     let is = vec_items s.items in
@@ -19,7 +17,7 @@ invariant_of-self c =
     let t = sentence c.args.node l r in
     let ea : vec_items c.extend_from_slice.new.self ≡ bs ++ l = search rules in
     let ei : vec_items c.extend_from_slice-2.new.self ≡ is ++ r = search rules in
-    let p = put_leaves rs _ bs _ l is _ r c.args.node c.len-left_at.result c.len-items_at.result c.push_reserved.ensures.items ea ei (omega arith) (omega arith) s.inside in
+    let p = put_leaves rs _ bs _ l is _ r c.args.node c.len.result c.len-2.result c.push_reserved.ensures.items ea ei (omega arith) (omega arith) c.self.invariant.inside in
     let fa = ap length ea ∙ length-append bs l in
     let fi = ap length ei ∙ length-append is r in
     record {
@@ -33,7 +31,7 @@ invariant_of-self c =
 
 pub returns : goal.returns
 returns c =
-    let s = c.args.self.now in
+    let s = c.self.inside in
     let rs = vec_items s.records in
     let bs = vec_items s.atoms in
     let is = vec_items s.items in
@@ -41,14 +39,5 @@ returns c =
     let r = c.args.right.now in
     let ea : vec_items c.extend_from_slice.new.self ≡ bs ++ l = search rules in
     let ei : vec_items c.extend_from_slice-2.new.self ≡ is ++ r = search rules in
-    record {
-      kept = (put_leaves rs _ bs _ l is _ r c.args.node c.len-left_at.result c.len-items_at.result c.push_reserved.ensures.items ea ei (omega arith) (omega arith) s.inside).0;
-      room = refl;
-    }
-
-pub push_reserved-requires : goal.push_reserved-requires
-push_reserved-requires c =
-    let s = c.args.self.now in
-    let n = length-map (vec_items s.records) (sentence_of (vec_items s.atoms) (vec_items s.items)) in
-    let w = (within s.room (kept_in s) (length c.args.left.now) (length c.args.right.now) c.requires).sentences in
-    omega arith
+    let p = put_leaves rs _ bs _ l is _ r c.args.node c.len.result c.len-2.result c.push_reserved.ensures.items ea ei (omega arith) (omega arith) c.self.invariant.inside in
+    rw (← c.self.view_is) (ap (λ v. with_sentences (record { room = s.room; sentences = sentences rs bs is }) v) p.0)

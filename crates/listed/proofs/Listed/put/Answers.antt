@@ -1,49 +1,35 @@
-use Rattle.std.proofs.Common.{◌≡◌, true, cond, [], ◌∷◌, ◌++◌, sym, ap, ◌∙◌, arith}
+use Rattle.std.proofs.Common.{◌≡◌, [], ◌∷◌, ◌++◌, length, ap, ◌∙◌, arith}
 use Rattle.terms.specs.Maps.{every}
 use Rattle.stores.specs.Sentences.{sentence}
 use Rattle.stores.specs.Refusals.{fits}
+use Rattle.stores.specs.declared.refusals.Refusal.TheVariants as refused
 use Rattle.stores.proofs.Keeps.{every_push}
-use Rattle.kept.specs.declared.Room.{Room}
-use Rattle.kept.specs.Held.{kept_in}
+use Rattle.kept.specs.Contents.{Contents}
+use Rattle.kept.specs.Held.{kept_in, room_in, passes, smaller}
+use Rattle.kept.proofs.Rooms.{not_passed}
+use Rattle.chains.specs.Entries.{Entries}
 use Rattle.chains.specs.Held.{buckets_in}
+use Rattle.chains.proofs.Pushes.{pushed}
 use Rattle.listed.specs.Held.{held_in}
-use Rattle.listed.proofs.Numbers.{still, takes, once_more, chained_more}
+use Rattle.listed.proofs.Numbers.{takes, once_more, chained_more}
 use Rattle.listed.proofs.Listed.put.Goals as goal
-
-pub invariant_of-self : goal.invariant_of-self
-invariant_of-self c =
-    let s = c.args.self.now in
-    let p = still s.mask (held_in s) (kept_in c.put.new.self) (buckets_in s.chains) c.if-not-put.ensures.kept s.fit s.chained s.once in
-    let r = ap (λ (v : Room). v.sentences) c.if-not-put.ensures.room in
-    record { fit = p.0; wide = s.wide; chains_room = omega arith; chained = p.1; once = p.2 }
 
 pub invariant_of-self-2 : goal.invariant_of-self-2
 invariant_of-self-2 c =
     let s = c.args.self.now in
+    let ss = held_in s in
     let x = sentence c.args.node c.args.left.now c.args.right.now in
-    let k = c.if-not-put.ensures.kept in
-    let ss = kept_in c.put.new.self in
-    let bs = buckets_in s.chains in
-    let r = ap (λ (v : Room). v.sentences) c.if-not-put.ensures.room in
-    let w = c.push.ensures.width in
-    let q = c.push.ensures.room in
-    let p : c.push.result ≡ true = c.push.ensures.gives ∙ takes s.mask c.hash_of.result c.args.most s.kept.room (held_in s) (buckets_in s.chains) _ _ _ _ _ c.if-not-put.ensures.gives s.chained c.bucket_of-bucket.ensures s.wide s.chains_room in
-    let e = c.push.ensures.entries ∙ ap (λ b. cond b (bs ++ c.bucket_of-bucket.result ∷ []) bs) p in
+    let k : kept_in c.put.new.self ≡ ss ++ x ∷ [] = ap kept_in c.in_ok-put.ensures.keeps in
+    let r = ap (λ (v : Contents). v.room.sentences) c.in_ok-put.ensures.keeps in
+    let n = not_passed (passes (smaller c.args.most (room_in s.kept)) ss (length c.args.left.now) (length c.args.right.now)) refused.Full c.in_ok-put.ensures.gives in
+    let t = takes s.mask c.hash_of.result c.args.most (room_in s.kept) ss (buckets_in s.chains) _ _ s.chains.width s.chains.room c.bucket_of-bucket.result n s.chained c.bucket_of-bucket.ensures s.wide s.chains_room in
+    let e = (pushed s.chains c.push.new.self c.bucket_of-bucket.result c.push.result c.push.ensures.gives c.push.ensures.entries t.0 t.1).1 in
+    let w = ap (λ (v : Entries). v.width) e in
+    let q = ap (λ (v : Entries). v.room) e in
     record {
-      fit = ap (every fits) k ∙ every_push fits (held_in s) x s.fit c.requires.fit;
+      fit = ap (every fits) k ∙ every_push fits ss x s.fit c.requires.fit;
       wide = omega arith;
       chains_room = omega arith;
-      chained = chained_more s.mask (held_in s) ss bs _ x c.bucket_of-bucket.result c.hash_of.result s.chained e c.bucket_of-bucket.ensures c.hash_of.ensures k;
-      once = once_more (held_in s) ss x s.once c.requires.fresh k;
-    }
-
-pub returns : goal.returns
-returns c =
-    let s = c.args.self.now in
-    let x = sentence c.args.node c.args.left.now c.args.right.now in
-    let p : c.push.result ≡ true = c.push.ensures.gives ∙ takes s.mask c.hash_of.result c.args.most s.kept.room (held_in s) (buckets_in s.chains) _ _ _ _ _ c.if-not-put.ensures.gives s.chained c.bucket_of-bucket.ensures s.wide s.chains_room in
-    record {
-      gives = p ∙ c.if-not-put.ensures.gives;
-      held = c.if-not-put.ensures.kept ∙ sym (ap (λ b. cond b (held_in s ++ x ∷ []) (held_in s)) p);
-      room = c.if-not-put.ensures.room;
+      chained = chained_more s.mask ss (kept_in c.put.new.self) (buckets_in s.chains) _ x c.bucket_of-bucket.result c.hash_of.result s.chained (ap buckets_in e) c.bucket_of-bucket.ensures c.hash_of.ensures k;
+      once = once_more ss (kept_in c.put.new.self) x s.once c.requires.fresh k;
     }

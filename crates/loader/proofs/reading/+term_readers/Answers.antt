@@ -1,37 +1,43 @@
-use Rattle.std.proofs.Common.{sym, refl, ap, ◌∙◌, arith, rules}
+use Rattle.std.proofs.Common.{◌≡◌, Ok, ◌⊎◌, ⊎_elim, sym, refl, ap, ◌∙◌, arith, rules}
 use Rattle.std.proofs.lemmas.Result.{err_from_is_err_and}
-use Rattle.std.proofs.lemmas.Bool.{and_from, lt-ltb}
+use Rattle.std.proofs.lemmas.Bool.{and_from}
 use Rattle.terms.specs.Terms.{done, atom, node}
 use Rattle.terms.specs.declared.items.Quoting.TheVariants.{Plain as plain, Quoted as quoted}
 use Rattle.grammar.specs.Parsing.{then, within}
 use Rattle.faults.specs.Grammar.{number, place}
 use Rattle.lookahead.specs.Ahead.{names_of, later}
+use Rattle.terms.specs.declared.items.Node.{Node}
+use Rattle.terms.specs.declared.items.Atom.{Atom}
+use Rattle.lookahead.specs.declared.word.Word.TheVariants as w
+use Rattle.lookahead.specs.Ended.{number_in_range}
 use Rattle.loader.proofs.Runs
 use Rattle.lookahead.proofs.Growth
 use Rattle.loader.proofs.Turns
 use Rattle.loader.proofs.reading.+term_readers.Goals as goal
 
-pub named_path-returns-then-not-is_less : goal.named_path-returns-then-not-is_less
-named_path-returns-then-not-is_less t c = record {
-  goes = λ l h r f b d. Turns.by_number l _ _ _ _ _ c.misplaced.result (Runs.no_path l h r _ _ f b _ _ _ (sym c.if-not-is_less.ensures)) c.misplaced.ensures.number c.misplaced.ensures.place;
-  grows = Growth.still _;
-  less = λ e. absurd (grind arith);
-  capacity = refl;
-  each = λ e. absurd (grind arith);
-}
+pub named_path-returns-in_default : goal.named_path-returns-in_default
+named_path-returns-in_default t c =
+    let not : c.args.p.now.word ≡ Ok w.Less → ⊥ = λ q. grind arith in record {
+      goes = λ l h r f b d. Turns.by_number l _ _ _ _ _ c.misplaced.result (Runs.no_path l h r _ _ f b _ _ _ not) c.misplaced.ensures.number c.misplaced.ensures.place;
+      grows = Growth.still _;
+      less = λ e. absurd (grind arith);
+      capacity = refl;
+      each = λ e. absurd (grind arith);
+    }
 
-pub named_path-returns : goal.named_path-returns
-named_path-returns t c = record { goes = Turns.path_term _ _ _ _ _ _ _ _ _ _ _ c.path.ensures.goes; grows = c.path.ensures.grows; less = λ e. omega (arith, c.path.ensures.less e); capacity = c.path.ensures.capacity; each = λ e. omega (arith, c.path.ensures.each e) }
+pub named_path-returns-in-Ok-Less : goal.named_path-returns-in-Ok-Less
+named_path-returns-in-Ok-Less t c = record { goes = Turns.path_term _ _ _ _ _ _ _ _ _ _ _ c.path.ensures.goes; grows = c.path.ensures.grows; less = λ e. omega (arith, c.path.ensures.less e); capacity = c.path.ensures.capacity; each = λ e. omega (arith, c.path.ensures.each e) }
 
 pub after_node-named_path-requires : goal.after_node-named_path-requires
 after_node-named_path-requires t c =
-    let z = Turns.one_colon c.args.p.now.place c.args.p.now.word _ _ (sym c.if-is_colon.ensures) c.advance.ensures.size in
+    let q : c.args.p.now.word ≡ Ok w.Colon = search rules in
+    let z = Runs.one_word c.args.p.now.place c.args.p.now.word w.Colon _ _ q refl c.advance.ensures.size in
     (search rules, (omega arith, (c.requires.depth, c.requires.named)))
 
-pub after_node-returns-then-is_colon : goal.after_node-returns-then-is_colon
-after_node-returns-then-is_colon t c =
-    let q = sym c.if-is_colon.ensures in
-    let z = Turns.one_colon c.args.p.now.place c.args.p.now.word _ _ q c.advance.ensures.size in
+pub after_node-returns-in-Ok-Colon : goal.after_node-returns-in-Ok-Colon
+after_node-returns-in-Ok-Colon t c =
+    let q : c.args.p.now.word ≡ Ok w.Colon = search rules in
+    let z = Runs.one_word c.args.p.now.place c.args.p.now.word w.Colon _ _ q refl c.advance.ensures.size in
     record {
       goes = Turns.word_first _ _ _ _ _ _ _ _ _ _ _ _ _ c.advance.ensures.moves (λ l h r f b d. Runs.at_colon l h r f b _ _ _ _ q d) c.named_path.ensures.goes;
       grows = Growth.on _ _ _ c.advance.ensures.grows c.named_path.ensures.grows;
@@ -40,38 +46,42 @@ after_node-returns-then-is_colon t c =
       each = λ e. omega (arith, c.named_path.ensures.each e);
     }
 
-pub after_node-returns-else-is_colon : goal.after_node-returns-else-is_colon
-after_node-returns-else-is_colon t c = record {
-  goes = Turns.one_term _ _ (node plain c.args.node done) (and_from _ _ c.requires.named refl) (omega arith) _ _ _ _ _ _ _ (Turns.stays _ _) c.push_reserved.ensures.items (λ l h r f b d. Runs.settled l h r _ f b _ _ _ (sym c.if-is_colon.ensures));
-  grows = Growth.still _;
-  less = λ e. omega arith;
-  capacity = c.push_reserved.ensures.capacity;
-  each = λ e. omega (arith, c.push_reserved.ensures.len);
-}
+pub after_node-returns-in_default : goal.after_node-returns-in_default
+after_node-returns-in_default t c =
+    let not : c.args.p.now.word ≡ Ok w.Colon → ⊥ = λ q. grind arith in record {
+      goes = Turns.one_term _ _ (node plain c.args.node done) (and_from _ _ c.requires.named refl) (omega arith) _ _ _ _ _ _ _ (Turns.stays _ _) c.push_reserved.ensures.items (λ l h r f b d. Runs.settled l h r _ f b _ _ _ not);
+      grows = Growth.still _;
+      less = λ e. omega arith;
+      capacity = c.push_reserved.ensures.capacity;
+      each = λ e. omega (arith, c.push_reserved.ensures.len);
+    }
 
-pub after_quote-returns-then-n-ge-NODES : goal.after_quote-returns-then-n-ge-NODES
-after_quote-returns-then-n-ge-NODES t c = record {
-  goes = λ l h r f b d. Turns.by_number l _ _ _ _ _ c.no_number.result (Runs.no_quoted_node l h r f b _ _ _ c.in-Node.n (sym c.in-Node.is) (omega arith) (omega arith)) (ap number c.no_number.ensures) (ap place c.no_number.ensures);
-  grows = Growth.still _;
-  less = λ e. absurd (grind arith);
-  capacity = refl;
-  each = λ e. absurd (grind arith);
-}
+pub after_quote-returns-in-Ok-UnnumberedNode : goal.after_quote-returns-in-Ok-UnnumberedNode
+after_quote-returns-in-Ok-UnnumberedNode t c =
+    let q : c.args.p.now.word ≡ Ok w.UnnumberedNode = search rules in record {
+      goes = λ l h r f b d. Turns.by_number l _ _ _ _ _ c.no_number.result (Runs.no_quoted_node l h r f b _ _ _ q (omega arith)) (ap number c.no_number.ensures) (ap place c.no_number.ensures);
+      grows = Growth.still _;
+      less = λ e. absurd (grind arith);
+      capacity = refl;
+      each = λ e. absurd (grind arith);
+    }
 
 pub after_quote-after_quoted_node-requires : goal.after_quote-after_quoted_node-requires
 after_quote-after_quoted_node-requires t c =
-    let z = Turns.one_node c.args.p.now.place c.args.p.now.word _ _ c.in-Node.n (sym c.in-Node.is) c.advance.ensures.size in
-    (search rules, (omega arith, (c.requires.depth, lt-ltb c.in-Node.n.0 1024 (omega arith))))
+    let q : c.args.p.now.word ≡ Ok (w.Node c.in-Ok-Node.n) = search rules in
+    let z = Runs.one_word c.args.p.now.place c.args.p.now.word (w.Node c.in-Ok-Node.n) _ _ q refl c.advance.ensures.size in
+    (search rules, (omega arith, (c.requires.depth, sym (ap number_in_range q) ∙ c.args.p.now.numbered)))
 
-pub after_quote-returns-in-Less : goal.after_quote-returns-in-Less
-after_quote-returns-in-Less t c = record { goes = Turns.quoted_path_term _ _ _ _ _ _ _ _ _ c.path.ensures.goes; grows = c.path.ensures.grows; less = λ e. omega (arith, c.path.ensures.less e); capacity = c.path.ensures.capacity; each = λ e. omega (arith, c.path.ensures.each e) }
+pub after_quote-returns-in-Ok-Less : goal.after_quote-returns-in-Ok-Less
+after_quote-returns-in-Ok-Less t c = record { goes = Turns.quoted_path_term _ _ _ _ _ _ _ _ _ c.path.ensures.goes; grows = c.path.ensures.grows; less = λ e. omega (arith, c.path.ensures.less e); capacity = c.path.ensures.capacity; each = λ e. omega (arith, c.path.ensures.each e) }
 
-pub after_quote-returns-else-n-ge-NODES : goal.after_quote-returns-else-n-ge-NODES
-after_quote-returns-else-n-ge-NODES t c =
-    let q = sym c.in-Node.is in
-    let z = Turns.one_node c.args.p.now.place c.args.p.now.word _ _ c.in-Node.n q c.advance.ensures.size in
+pub after_quote-returns-in-Ok-Node : goal.after_quote-returns-in-Ok-Node
+after_quote-returns-in-Ok-Node t c =
+    let e : c.args.p.now.word ≡ Ok (w.Node c.in-Ok-Node.n) = search rules in
+    let q = sym e in
+    let z = Runs.one_word c.args.p.now.place c.args.p.now.word (w.Node c.in-Ok-Node.n) _ _ e refl c.advance.ensures.size in
     record {
-      goes = Turns.word_first _ _ _ _ _ _ _ _ _ _ _ _ _ c.advance.ensures.moves (λ l h r f b d. Runs.at_quoted_node l h r f b _ _ _ _ q (omega arith) d) c.after_quoted_node.ensures.goes;
+      goes = Turns.word_first _ _ _ _ _ _ _ _ _ _ _ _ _ c.advance.ensures.moves (λ l h r f b d. Runs.at_quoted_node l h r f b _ _ _ _ q (sym (ap number_in_range e) ∙ c.args.p.now.numbered) d) c.after_quoted_node.ensures.goes;
       grows = Growth.on _ _ _ c.advance.ensures.grows c.after_quoted_node.ensures.grows;
       less = λ e. omega (arith, c.after_quoted_node.ensures.less e);
       capacity = c.after_quoted_node.ensures.capacity;
@@ -79,23 +89,27 @@ after_quote-returns-else-n-ge-NODES t c =
     }
 
 pub after_quote-returns-in_default : goal.after_quote-returns-in_default
-after_quote-returns-in_default t c = record {
-  goes = λ l h r f b d. Turns.by_number l _ _ _ _ _ c.misplaced.result (Runs.no_quoted l h r f b _ _ _ c.in_default.not-Less c.in_default.not-Node) c.misplaced.ensures.number c.misplaced.ensures.place;
-  grows = Growth.still _;
-  less = λ e. absurd (grind arith);
-  capacity = refl;
-  each = λ e. absurd (grind arith);
-}
+after_quote-returns-in_default t c =
+    let not_less : c.args.p.now.word ≡ Ok w.Less → ⊥ = λ q. grind arith in
+    let not_node : (n : Node) → c.args.p.now.word ≡ Ok (w.Node n) → ⊥ = λ n q. grind arith in
+    let not_unnumbered : c.args.p.now.word ≡ Ok w.UnnumberedNode → ⊥ = λ q. grind arith in record {
+      goes = λ l h r f b d. Turns.by_number l _ _ _ _ _ c.misplaced.result (Runs.no_quoted l h r f b _ _ _ not_less not_node not_unnumbered) c.misplaced.ensures.number c.misplaced.ensures.place;
+      grows = Growth.still _;
+      less = λ e. absurd (grind arith);
+      capacity = refl;
+      each = λ e. absurd (grind arith);
+    }
 
 pub after_quoted_node-named_path-requires : goal.after_quoted_node-named_path-requires
 after_quoted_node-named_path-requires t c =
-    let z = Turns.one_colon c.args.p.now.place c.args.p.now.word _ _ (sym c.if-is_colon.ensures) c.advance.ensures.size in
+    let q : c.args.p.now.word ≡ Ok w.Colon = search rules in
+    let z = Runs.one_word c.args.p.now.place c.args.p.now.word w.Colon _ _ q refl c.advance.ensures.size in
     (search rules, (omega arith, (c.requires.depth, c.requires.named)))
 
-pub after_quoted_node-returns-then-is_colon : goal.after_quoted_node-returns-then-is_colon
-after_quoted_node-returns-then-is_colon t c =
-    let q = sym c.if-is_colon.ensures in
-    let z = Turns.one_colon c.args.p.now.place c.args.p.now.word _ _ q c.advance.ensures.size in
+pub after_quoted_node-returns-in-Ok-Colon : goal.after_quoted_node-returns-in-Ok-Colon
+after_quoted_node-returns-in-Ok-Colon t c =
+    let q : c.args.p.now.word ≡ Ok w.Colon = search rules in
+    let z = Runs.one_word c.args.p.now.place c.args.p.now.word w.Colon _ _ q refl c.advance.ensures.size in
     record {
       goes = Turns.word_first _ _ _ _ _ _ _ _ _ _ _ _ _ c.advance.ensures.moves (λ l h r f b d. Runs.at_quoted_colon l h r f b _ _ _ _ q d) c.named_path.ensures.goes;
       grows = Growth.on _ _ _ c.advance.ensures.grows c.named_path.ensures.grows;
@@ -104,22 +118,24 @@ after_quoted_node-returns-then-is_colon t c =
       each = λ e. omega (arith, c.named_path.ensures.each e);
     }
 
-pub after_quoted_node-returns-then-not-is_quote : goal.after_quoted_node-returns-then-not-is_quote
-after_quoted_node-returns-then-not-is_quote t c = record {
-  goes = λ l h r f b d. Turns.by_number l _ _ _ _ _ c.misplaced.result (Runs.no_node_end l h r _ f b _ _ _ (sym c.if-is_colon.ensures) (sym c.if-not-is_quote.ensures)) c.misplaced.ensures.number c.misplaced.ensures.place;
-  grows = Growth.still _;
-  less = λ e. absurd (grind arith);
-  capacity = refl;
-  each = λ e. absurd (grind arith);
-}
+pub after_quoted_node-returns-in_default : goal.after_quoted_node-returns-in_default
+after_quoted_node-returns-in_default t c =
+    let not_colon : c.args.p.now.word ≡ Ok w.Colon → ⊥ = λ q. grind arith in
+    let not_quote : c.args.p.now.word ≡ Ok w.Quote → ⊥ = λ q. grind arith in record {
+      goes = λ l h r f b d. Turns.by_number l _ _ _ _ _ c.misplaced.result (Runs.no_node_end l h r _ f b _ _ _ not_colon not_quote) c.misplaced.ensures.number c.misplaced.ensures.place;
+      grows = Growth.still _;
+      less = λ e. absurd (grind arith);
+      capacity = refl;
+      each = λ e. absurd (grind arith);
+    }
 
-pub after_quoted_node-returns : goal.after_quoted_node-returns
-after_quoted_node-returns t c =
-    let q = sym c.if-not-is_quote.ensures in
-    let z = Turns.one_quote c.args.p.now.place c.args.p.now.word _ _ q c.advance-2.ensures.size in
+pub after_quoted_node-returns-in-Ok-Quote : goal.after_quoted_node-returns-in-Ok-Quote
+after_quoted_node-returns-in-Ok-Quote t c =
+    let q : c.args.p.now.word ≡ Ok w.Quote = search rules in
+    let z = Runs.one_word c.args.p.now.place c.args.p.now.word w.Quote _ _ q refl c.advance-in-Ok-Quote.ensures.size in
     record {
-      goes = Turns.one_term _ _ (node quoted c.args.node done) (and_from _ _ c.requires.named refl) (omega arith) _ _ _ _ _ _ _ c.advance-2.ensures.moves c.push_reserved.ensures.items (λ l h r f b d. Runs.at_node_end l h r f b _ _ _ _ q d);
-      grows = c.advance-2.ensures.grows;
+      goes = Turns.one_term _ _ (node quoted c.args.node done) (and_from _ _ c.requires.named refl) (omega arith) _ _ _ _ _ _ _ c.advance-in-Ok-Quote.ensures.moves c.push_reserved.ensures.items (λ l h r f b d. Runs.at_node_end l h r f b _ _ _ _ q d);
+      grows = c.advance-in-Ok-Quote.ensures.grows;
       less = λ e. omega arith;
       capacity = c.push_reserved.ensures.capacity;
       each = λ e. omega (arith, c.push_reserved.ensures.len);
@@ -135,11 +151,11 @@ path-returns-then-left-eq0 t c = record {
 }
 
 pub path-push_reserved-requires : goal.path-push_reserved-requires
-path-push_reserved-requires t c = omega (arith, Runs.fewer_less c.args.p.now.place c.args.p.now.word (later (names_of c.args.names.now) c.args.p.now) c.requires.starts)
+path-push_reserved-requires t c = omega (arith, Runs.one_word c.args.p.now.place c.args.p.now.word w.Less (later (names_of c.args.names.now) c.args.p.now) (later (names_of c.args.names.now) c.args.p.now) (Runs.only_less _ c.requires.starts) refl refl)
 
 pub path-terms-requires : goal.path-terms-requires
 path-terms-requires t c =
-    let z = Turns.one_less c.args.p.now.place c.args.p.now.word _ _ c.requires.starts c.advance.ensures.size in
+    let z = Runs.one_word c.args.p.now.place c.args.p.now.word w.Less _ _ (Runs.only_less _ c.requires.starts) refl c.advance.ensures.size in
     (search rules, (omega (arith, c.push_reserved.ensures.len, c.push_reserved.ensures.capacity), omega arith))
 
 pub path-returns-in_err-terms : goal.path-returns-in_err-terms
@@ -153,11 +169,12 @@ path-returns-in_err-terms t c =
       each = rw p.1 (λ q. absurd (grind arith));
     }
 
-pub path-returns-then-not-is_greater : goal.path-returns-then-not-is_greater
-path-returns-then-not-is_greater t c =
+pub path-returns-in_default : goal.path-returns-in_default
+path-returns-in_default t c =
     let told = c.in_ok-terms.ensures in
+    let not : c.terms.new.p.word ≡ Ok w.Greater → ⊥ = λ q. grind arith in
     record {
-      goes = λ l h r f b d. Turns.path_inside c.args.left c.args.quoting c.args.node _ _ _ _ _ _ _ _ _ _ c.requires.starts (omega arith) c.advance.ensures.moves told.goes l h r f b d ∙ Turns.by_number l _ _ _ _ _ c.misplaced.result (Runs.no_close l h r _ c.args.quoting c.args.node b f _ _ _ _ (told.stops refl) (sym c.if-not-is_greater.ensures)) c.misplaced.ensures.number c.misplaced.ensures.place;
+      goes = λ l h r f b d. Turns.path_inside c.args.left c.args.quoting c.args.node _ _ _ _ _ _ _ _ _ _ c.requires.starts (omega arith) c.advance.ensures.moves told.goes l h r f b d ∙ Turns.by_number l _ _ _ _ _ c.misplaced.result (Runs.no_close l h r _ c.args.quoting c.args.node b f _ _ _ _ (told.stops refl) not) c.misplaced.ensures.number c.misplaced.ensures.place;
       grows = Growth.on _ _ _ c.advance.ensures.grows told.grows;
       less = λ e. absurd (grind arith);
       capacity = told.capacity ∙ c.push_reserved.ensures.capacity;
@@ -166,17 +183,18 @@ path-returns-then-not-is_greater t c =
 
 pub path-push_reserved-requires-2 : goal.path-push_reserved-requires-2
 path-push_reserved-requires-2 t c =
+    let e : c.terms.new.p.word ≡ Ok w.Greater = search rules in
     let told = c.in_ok-terms.ensures in
-    let z = Turns.one_less c.args.p.now.place c.args.p.now.word _ _ c.requires.starts c.advance.ensures.size in
-    let g = Runs.fewer_greater c.terms.new.p.place c.terms.new.p.word (later (names_of c.terms.new.names) c.terms.new.p) (sym c.if-not-is_greater.ensures) in
+    let z = Runs.one_word c.args.p.now.place c.args.p.now.word w.Less _ _ (Runs.only_less _ c.requires.starts) refl c.advance.ensures.size in
+    let g = Runs.one_word c.terms.new.p.place c.terms.new.p.word w.Greater (later (names_of c.terms.new.names) c.terms.new.p) (later (names_of c.terms.new.names) c.terms.new.p) e refl refl in
     omega (arith, told.each refl, told.capacity, c.requires.room, c.push_reserved.ensures.len, c.push_reserved.ensures.capacity)
 
 pub path-returns-in-Plain : goal.path-returns-in-Plain
 path-returns-in-Plain t c =
     let told = c.in_ok-terms.ensures in
-    let g = sym c.if-not-is_greater.ensures in
-    let z₁ = Turns.one_less c.args.p.now.place c.args.p.now.word _ _ c.requires.starts c.advance.ensures.size in
-    let z₂ = Turns.one_greater c.terms.new.p.place c.terms.new.p.word _ _ g c.advance-2.ensures.size in
+    let g : c.terms.new.p.word ≡ Ok w.Greater = search rules in
+    let z₁ = Runs.one_word c.args.p.now.place c.args.p.now.word w.Less _ _ (Runs.only_less _ c.requires.starts) refl c.advance.ensures.size in
+    let z₂ = Runs.one_word c.terms.new.p.place c.terms.new.p.word w.Greater _ _ g refl c.advance-2.ensures.size in
     record {
       goes = Turns.path_plain c.args.left c.args.quoting c.args.node _ _ _ _ _ _ _ _ _ _ _ _ _ _ _ _ c.requires.starts (omega arith) c.advance.ensures.moves told.goes g c.advance-2.ensures.moves c.push_reserved.ensures.items c.push_reserved-2.ensures.items c.requires.named c.in-Plain.is;
       grows = Growth.on _ _ _ (Growth.on _ _ _ c.advance.ensures.grows told.grows) c.advance-2.ensures.grows;
@@ -188,9 +206,9 @@ path-returns-in-Plain t c =
 pub path-returns-in-Quoted : goal.path-returns-in-Quoted
 path-returns-in-Quoted t c =
     let told = c.in_ok-terms.ensures in
-    let g = sym c.if-not-is_greater.ensures in
-    let z₁ = Turns.one_less c.args.p.now.place c.args.p.now.word _ _ c.requires.starts c.advance.ensures.size in
-    let z₂ = Turns.one_greater c.terms.new.p.place c.terms.new.p.word _ _ g c.advance-2.ensures.size in
+    let g : c.terms.new.p.word ≡ Ok w.Greater = search rules in
+    let z₁ = Runs.one_word c.args.p.now.place c.args.p.now.word w.Less _ _ (Runs.only_less _ c.requires.starts) refl c.advance.ensures.size in
+    let z₂ = Runs.one_word c.terms.new.p.place c.terms.new.p.word w.Greater _ _ g refl c.advance-2.ensures.size in
     record {
       goes = Turns.path_quoted c.args.left c.args.quoting c.args.node _ _ _ _ _ _ _ _ _ _ _ _ _ _ _ _ c.requires.starts (omega arith) c.advance.ensures.moves told.goes g c.advance-2.ensures.moves c.push_reserved.ensures.items c.push_reserved-2.ensures.items c.requires.named _ _ _ c.in-Quoted.is c.end_quote.ensures.goes;
       grows = Growth.on _ _ _ (Growth.on _ _ _ (Growth.on _ _ _ c.advance.ensures.grows told.grows) c.advance-2.ensures.grows) c.end_quote.ensures.grows;
@@ -199,8 +217,8 @@ path-returns-in-Quoted t c =
       each = λ e. omega (arith, told.each refl, c.end_quote.ensures.less e, c.push_reserved.ensures.len, c.push_reserved-2.ensures.len);
     }
 
-pub term-returns-then-is_less : goal.term-returns-then-is_less
-term-returns-then-is_less t c = record { goes = Turns.plain_path_term _ _ _ _ _ _ _ _ _ c.requires.inside c.path.ensures.goes; grows = c.path.ensures.grows; less = c.path.ensures.less; capacity = c.path.ensures.capacity; each = λ e. omega (arith, c.path.ensures.each e) }
+pub term-returns-in-Ok-Less : goal.term-returns-in-Ok-Less
+term-returns-in-Ok-Less t c = record { goes = Turns.plain_path_term _ _ _ _ _ _ _ _ _ c.requires.inside c.path.ensures.goes; grows = c.path.ensures.grows; less = c.path.ensures.less; capacity = c.path.ensures.capacity; each = λ e. omega (arith, c.path.ensures.each e) }
 
 pub terms-loop-p-init : goal.terms-loop-p-init
 terms-loop-p-init t c = (Turns.nothing _ _ _ _, Growth.still _, omega arith, c.requires.room, omega arith, refl)
@@ -223,49 +241,45 @@ terms-returns-in_err-term t c =
       each = rw p.1 (λ q. absurd (grind arith));
     }
 
-pub unopened-returns-then-a-ge-ATOMS : goal.unopened-returns-then-a-ge-ATOMS
-unopened-returns-then-a-ge-ATOMS t c = record {
-  goes = λ l h r f b d. Turns.by_number l _ _ _ _ _ c.no_number.result (Runs.no_atom l h r f b _ _ _ c.in-Atom.a (sym c.in-Atom.is) (omega arith) (omega arith)) (ap number c.no_number.ensures) (ap place c.no_number.ensures);
-  grows = Growth.still _;
-  less = λ e. absurd (grind arith);
-  capacity = refl;
-  each = λ e. absurd (grind arith);
-}
-
 pub unopened-push_reserved-requires : goal.unopened-push_reserved-requires
 unopened-push_reserved-requires t c = omega (arith, Runs.fewer_start c.args.p.now.place c.args.p.now.word (later (names_of c.args.names.now) c.args.p.now) c.requires.starts)
 
-pub unopened-returns-else-a-ge-ATOMS : goal.unopened-returns-else-a-ge-ATOMS
-unopened-returns-else-a-ge-ATOMS t c =
-    let z = Turns.one_start c.args.p.now.place c.args.p.now.word _ _ c.requires.starts c.advance.ensures.size in
+pub unopened-returns-in-Ok-Atom : goal.unopened-returns-in-Ok-Atom
+unopened-returns-in-Ok-Atom t c =
+    let q : c.args.p.now.word ≡ Ok (w.Atom c.in-Ok-Atom.a) = search rules in
+    let n = sym (ap number_in_range q) ∙ c.args.p.now.numbered in
+    let z = Runs.one_start c.args.p.now.place c.args.p.now.word _ _ c.requires.starts c.advance.ensures.size in
     record {
-      goes = Turns.one_term _ _ (atom c.in-Atom.a done) (and_from _ _ (lt-ltb c.in-Atom.a.0 4096 (omega arith)) refl) (omega arith) _ _ _ _ _ _ _ c.advance.ensures.moves c.push_reserved.ensures.items (λ l h r f b d. Runs.at_atom l h r f b _ _ _ _ (sym c.in-Atom.is) (omega arith) d);
+      goes = Turns.one_term _ _ (atom c.in-Ok-Atom.a done) (and_from _ _ n refl) (omega arith) _ _ _ _ _ _ _ c.advance.ensures.moves c.push_reserved.ensures.items (λ l h r f b d. Runs.at_atom l h r f b _ _ _ _ (sym q) n d);
       grows = c.advance.ensures.grows;
       less = λ e. omega arith;
       capacity = c.push_reserved.ensures.capacity;
       each = λ e. omega (arith, c.push_reserved.ensures.len);
     }
 
-pub unopened-returns-then-n-ge-NODES : goal.unopened-returns-then-n-ge-NODES
-unopened-returns-then-n-ge-NODES t c = record {
-  goes = λ l h r f b d. Turns.by_number l _ _ _ _ _ c.no_number-then-n-ge-NODES.result (Runs.no_node l h r f b _ _ _ c.in-Node.n (sym c.in-Node.is) (omega arith) (omega arith)) (ap number c.no_number-then-n-ge-NODES.ensures) (ap place c.no_number-then-n-ge-NODES.ensures);
-  grows = Growth.still _;
-  less = λ e. absurd (grind arith);
-  capacity = refl;
-  each = λ e. absurd (grind arith);
-}
+pub unopened-returns-in-Ok-UnnumberedAtom : goal.unopened-returns-in-Ok-UnnumberedAtom
+unopened-returns-in-Ok-UnnumberedAtom t c =
+    let q : (c.args.p.now.word ≡ Ok w.UnnumberedAtom) ⊎ (c.args.p.now.word ≡ Ok w.UnnumberedNode) = search rules in record {
+      goes = λ l h r f b d. Turns.by_number l _ _ _ _ _ c.no_number.result (⊎_elim (λ q. Runs.no_atom l h r f b _ _ _ q (omega arith)) (λ q. Runs.no_node l h r f b _ _ _ q (omega arith)) q) (ap number c.no_number.ensures) (ap place c.no_number.ensures);
+      grows = Growth.still _;
+      less = λ e. absurd (grind arith);
+      capacity = refl;
+      each = λ e. absurd (grind arith);
+    }
 
 pub unopened-after_node-requires : goal.unopened-after_node-requires
 unopened-after_node-requires t c =
-    let z = Turns.one_start c.args.p.now.place c.args.p.now.word _ _ c.requires.starts c.advance-in-Node.ensures.size in
-    (search rules, (omega arith, (c.requires.depth, lt-ltb c.in-Node.n.0 1024 (omega arith))))
+    let q : c.args.p.now.word ≡ Ok (w.Node c.in-Ok-Node.n) = search rules in
+    let z = Runs.one_start c.args.p.now.place c.args.p.now.word _ _ c.requires.starts c.advance-in-Ok-Node.ensures.size in
+    (search rules, (omega arith, (c.requires.depth, sym (ap number_in_range q) ∙ c.args.p.now.numbered)))
 
-pub unopened-returns-else-n-ge-NODES : goal.unopened-returns-else-n-ge-NODES
-unopened-returns-else-n-ge-NODES t c =
-    let z = Turns.one_start c.args.p.now.place c.args.p.now.word _ _ c.requires.starts c.advance-in-Node.ensures.size in
+pub unopened-returns-in-Ok-Node : goal.unopened-returns-in-Ok-Node
+unopened-returns-in-Ok-Node t c =
+    let q : c.args.p.now.word ≡ Ok (w.Node c.in-Ok-Node.n) = search rules in
+    let z = Runs.one_start c.args.p.now.place c.args.p.now.word _ _ c.requires.starts c.advance-in-Ok-Node.ensures.size in
     record {
-      goes = Turns.word_first _ _ _ _ _ _ _ _ _ _ _ _ _ c.advance-in-Node.ensures.moves (λ l h r f b d. Runs.at_node l h r f b _ _ _ _ (sym c.in-Node.is) (omega arith) d) c.after_node.ensures.goes;
-      grows = Growth.on _ _ _ c.advance-in-Node.ensures.grows c.after_node.ensures.grows;
+      goes = Turns.word_first _ _ _ _ _ _ _ _ _ _ _ _ _ c.advance-in-Ok-Node.ensures.moves (λ l h r f b d. Runs.at_node l h r f b _ _ _ _ (sym q) (sym (ap number_in_range q) ∙ c.args.p.now.numbered) d) c.after_node.ensures.goes;
+      grows = Growth.on _ _ _ c.advance-in-Ok-Node.ensures.grows c.after_node.ensures.grows;
       less = λ e. omega (arith, c.after_node.ensures.less e);
       capacity = c.after_node.ensures.capacity;
       each = λ e. omega (arith, c.after_node.ensures.each e);
@@ -273,13 +287,17 @@ unopened-returns-else-n-ge-NODES t c =
 
 pub unopened-after_quote-requires : goal.unopened-after_quote-requires
 unopened-after_quote-requires t c =
-    let z = Turns.one_start c.args.p.now.place c.args.p.now.word _ _ c.requires.starts c.advance-in_default.ensures.size in
+    let z = Runs.one_start c.args.p.now.place c.args.p.now.word _ _ c.requires.starts c.advance-in_default.ensures.size in
     (search rules, (omega arith, c.requires.depth))
 
 pub unopened-returns-in_default : goal.unopened-returns-in_default
 unopened-returns-in_default t c =
-    let z = Turns.one_start c.args.p.now.place c.args.p.now.word _ _ c.requires.starts c.advance-in_default.ensures.size in
-    let q = Runs.quote_only c.args.p.now.word c.requires.starts c.requires.unopened c.in_default.not-Atom c.in_default.not-Node in
+    let z = Runs.one_start c.args.p.now.place c.args.p.now.word _ _ c.requires.starts c.advance-in_default.ensures.size in
+    let not_atom : (a : Atom) → c.args.p.now.word ≡ Ok (w.Atom a) → ⊥ = λ a q. grind arith in
+    let not_node : (n : Node) → c.args.p.now.word ≡ Ok (w.Node n) → ⊥ = λ n q. grind arith in
+    let no_atom : c.args.p.now.word ≡ Ok w.UnnumberedAtom → ⊥ = λ q. grind arith in
+    let no_node : c.args.p.now.word ≡ Ok w.UnnumberedNode → ⊥ = λ q. grind arith in
+    let q = Runs.quote_only c.args.p.now.word c.requires.starts c.requires.unopened not_atom not_node no_atom no_node in
     record {
       goes = Turns.word_first _ _ _ _ _ _ _ _ _ _ _ _ _ c.advance-in_default.ensures.moves (λ l h r f b d. Runs.at_quote l h r f b _ _ _ q d) c.after_quote.ensures.goes;
       grows = Growth.on _ _ _ c.advance-in_default.ensures.grows c.after_quote.ensures.grows;

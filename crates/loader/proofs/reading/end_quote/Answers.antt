@@ -1,21 +1,25 @@
-use Rattle.std.proofs.Common.{sym, ◌∙◌, arith}
+use Rattle.std.proofs.Common.{◌≡◌, Ok, ◌∙◌, arith, rules, refl}
+use Rattle.lookahead.specs.declared.word.Word.TheVariants as w
+use Rattle.loader.proofs.Runs
 use Rattle.loader.proofs.Runs.{no_end, at_end}
 use Rattle.lookahead.proofs.Growth
-use Rattle.loader.proofs.Turns.{one_quote, with_names, by_number}
+use Rattle.loader.proofs.Turns.{with_names, by_number}
 use Rattle.loader.proofs.reading.end_quote.Goals as goal
 
-pub returns-then-not-is_quote : goal.returns-then-not-is_quote
-returns-then-not-is_quote c = record {
-  goes = λ l h r n i f b d. by_number l _ _ _ _ _ c.misplaced.result (no_end l h r n i f b _ _ _ (sym c.if-not-is_quote.ensures)) c.misplaced.ensures.number c.misplaced.ensures.place;
-  grows = Growth.still _;
-  less = λ e. absurd (grind arith);
-}
+pub returns-in_default : goal.returns-in_default
+returns-in_default c =
+    let not : c.args.p.now.word ≡ Ok w.Quote → ⊥ = λ q. grind arith in
+    record {
+      goes = λ l h r n i f b d. by_number l _ _ _ _ _ c.misplaced.result (no_end l h r n i f b _ _ _ not) c.misplaced.ensures.number c.misplaced.ensures.place;
+      grows = Growth.still _;
+      less = λ e. absurd (grind arith);
+    }
 
 pub returns : goal.returns
 returns c =
-    let q = sym c.if-not-is_quote.ensures in
+    let q : c.args.p.now.word ≡ Ok w.Quote = search rules in
     record {
       goes = λ l h r n i f b d. with_names _ (at_end l h r f b _ _ _ n i q d) ∙ c.advance.ensures.moves l _;
       grows = c.advance.ensures.grows;
-      less = λ e. omega (arith, one_quote c.args.p.now.place c.args.p.now.word _ _ q c.advance.ensures.size);
+      less = λ e. omega (arith, Runs.one_word c.args.p.now.place c.args.p.now.word w.Quote _ _ q refl c.advance.ensures.size);
     }

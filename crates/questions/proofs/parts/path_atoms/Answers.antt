@@ -4,9 +4,6 @@ use Rattle.std.proofs.lemmas.Result.{err_from_is_err_and}
 use Rattle.questions.proofs.Turns
 use Rattle.questions.proofs.parts.path_atoms.Goals as goal
 
-pub loop-next-init : goal.loop-next-init
-loop-next-init c = Turns.begun _ _ c.new-path.result c.new-path.ensures
-
 pub returns-in_err-next-clause-reads : goal.returns-in_err-next-clause-reads
 returns-in_err-next-clause-reads c =
     let p = err_from_is_err_and c.from_residual.result c.from_residual.ensures.1 in

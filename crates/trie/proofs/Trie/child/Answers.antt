@@ -1,31 +1,18 @@
-use Rattle.std.proofs.Common.{vec_items, sym, ap, ◌∙◌, arith}
+use Rattle.std.proofs.Common.{◌≡◌, suc, ◌+◌, map, Some, vec_items, sym, ap, ◌∙◌, arith, rules}
 use Rattle.chains.specs.Held.{buckets_in}
-use Rattle.chains.specs.Last.{last_by}
-use Rattle.trie.proofs.Childs.{child_start, child_within, child_hit, child_next}
+use Rattle.trie.specs.Ways.{edge_of, end}
+use Rattle.trie.proofs.Childs.{child_found}
 use Rattle.trie.proofs.Trie.child.Goals as goal
 
-pub loop-at-init : goal.loop-at-init
-loop-at-init c =
+pub returns-in_err-last : goal.returns-in_err-last
+returns-in_err-last c =
     let s = c.args.self.now in
-    child_start (vec_items s.edges) (buckets_in s.chains) c.args.parent c.args.label c.last-at.result s.chained (c.last-at.ensures ∙ ap (λ b. last_by (lib.Dec.eqb b) (buckets_in s.chains)) c.bucket_of.ensures.is)
+    let e = child_found (map edge_of (vec_items s.places)) (buckets_in s.chains) c.args.parent c.args.label c.bucket_of.result _ c.find.result s.chained c.bucket_of.ensures.is (λ i r a. search rules) c.find.ensures.found c.find.ensures.none in
+    c.from_residual.ensures ∙ ap end (sym c.in_err-last.was ∙ e)
 
-pub index-requires : goal.index-requires
-index-requires c =
+pub returns : goal.returns
+returns c =
     let s = c.args.self.now in
-    let w = child_within (vec_items s.edges) (buckets_in s.chains) c.args.parent c.args.label c.loop-at.at c.in-Some.i s.chained c.in-Some.is c.loop-at.invariant in
-    omega arith
-
-pub returns-then-same_edge : goal.returns-then-same_edge
-returns-then-same_edge c =
-    let s = c.args.self.now in
-    child_hit (vec_items s.edges) (buckets_in s.chains) c.args.parent c.args.label c.loop-at.at c.in-Some.i c.index.result.now s.chained c.in-Some.is c.loop-at.invariant c.index.ensures (sym c.if-same_edge.ensures)
-
-pub loop-at-smaller : goal.loop-at-smaller
-loop-at-smaller c =
-    let s = c.args.self.now in
-    (child_next (vec_items s.edges) (buckets_in s.chains) c.args.parent c.args.label c.loop-at.at c.in-Some.i c.index.result.now c.before-at.result s.chained c.in-Some.is c.loop-at.invariant c.index.ensures (sym c.if-same_edge.ensures) c.before-at.ensures).1
-
-pub loop-at-preserved : goal.loop-at-preserved
-loop-at-preserved c =
-    let s = c.args.self.now in
-    (child_next (vec_items s.edges) (buckets_in s.chains) c.args.parent c.args.label c.loop-at.at c.in-Some.i c.index.result.now c.before-at.result s.chained c.in-Some.is c.loop-at.invariant c.index.ensures (sym c.if-same_edge.ensures) c.before-at.ensures).0
+    let e = child_found (map edge_of (vec_items s.places)) (buckets_in s.chains) c.args.parent c.args.label c.bucket_of.result _ c.find.result s.chained c.bucket_of.ensures.is (λ i r a. search rules) c.find.ensures.found c.find.ensures.none in
+    let z : c.in_ok-last.last + 1 ≡ suc c.in_ok-last.last = omega arith in
+    ap Some z ∙ ap end (sym c.in_ok-last.was ∙ e)

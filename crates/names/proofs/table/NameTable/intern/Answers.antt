@@ -3,15 +3,10 @@ use Rattle.std.proofs.lemmas.List.{length-map}
 use Rattle.std.proofs.lemmas.Bool.{cond-true}
 use Rattle.names.specs.Parts.{parts_of, in_order}
 use Rattle.names.specs.Held.{names_in}
-use Rattle.names.proofs.Laws.{span, ordered_grown, names_push, too_long, no_more, refused_names, there_names, new_names}
-use Rattle.chains.specs.Held.{buckets_in, width_in, room_in}
+use Rattle.names.proofs.Laws.{span, ordered_grown, names_push, there_names, new_names}
+use Rattle.chains.specs.Held.{buckets_in, width_in}
 use Rattle.names.proofs.Apart.{table_push}
 use Rattle.names.proofs.table.NameTable.intern.Goals as goal
-
-pub returns-then-name-gt-NAME_BYTES : goal.returns-then-name-gt-NAME_BYTES
-returns-then-name-gt-NAME_BYTES c =
-    let r = refused_names _ _ _ (too_long c.args.self.now.limit (names_in c.args.self.now) c.args.name.now (omega arith)) in
-    record { gives = r.0; names = r.1; limit = refl }
 
 pub returns-then-n-len : goal.returns-then-n-len
 returns-then-n-len c =
@@ -19,17 +14,12 @@ returns-then-n-len c =
     let r = there_names c.args.self.now.limit (names_in c.args.self.now) c.args.name.now (omega arith) (omega arith) c.number-n.result c.number-n.ensures (omega arith) in
     record { gives = r.0; names = r.1; limit = refl }
 
-pub returns-then-n-self : goal.returns-then-n-self
-returns-then-n-self c =
-    let r = refused_names _ _ _ (no_more c.args.self.now.limit (names_in c.args.self.now) c.args.name.now (omega arith) (omega (arith, c.number-n.ensures))) in
-    record { gives = r.0; names = r.1; limit = refl }
-
 pub invariant_of-self : goal.invariant_of-self
 invariant_of-self c =
     let t = c.args.self.now in
+    let l : length (names_in t) ≡ vec_len t.parts = search (rules, length-map) in
     let s = (span 0 (vec_items t.parts) (vec_len t.bytes) t.ordered).1 in
     let ok : is_ok c.extend_from_slice.result ≡ true = c.extend_from_slice.ensures.succeeds (omega (arith, s, t.parts.ok.0)) in
-    let l : length (names_in t) ≡ vec_len t.parts = search (rules, length-map) in
     let P : ℕ → Type 0 = λ n. in_order 0 (vec_items t.parts) n ≡ true in
     let ordered : in_order 0 (vec_items t.parts) (length (vec_items t.bytes)) ≡ true = subst P t.bytes.ok.0 t.ordered in
     let start : c.len-start.result ≡ length (vec_items t.bytes) = c.len-start.ensures ∙ t.bytes.ok.0 in
@@ -39,23 +29,23 @@ invariant_of-self c =
     ∙ names_push (vec_items t.bytes) c.args.name.now (vec_items t.parts) _ ordered start refl in
     let n = c.number-n.ensures in
     let wide = t.wide in
-    let p = table_push (names_in t) _ (buckets_in t.chains) (buckets_in c.push.new.self) c.args.name.now c.bucket_of.result (width_in t.chains) (room_in t.chains) c.push.result t.chained grown c.bucket_of.ensures.is c.push.ensures.gives (omega (arith, c.bucket_of.ensures.small)) (omega arith) c.push.ensures.entries t.apart (omega arith) in record {
+    let p = table_push (names_in t) _ t.chains c.push.new.self c.args.name.now c.bucket_of.result c.push.result t.chained grown c.bucket_of.ensures.is c.push.ensures.gives (omega (arith, c.bucket_of.ensures.small)) (omega arith) c.push.ensures.entries t.apart (omega arith) in record {
       ordered = ordered_grown _ _ _ _ _ t.ordered c.push_reserved.ensures.items (c.extend_from_slice.ensures.len ∙ cond-true _ _ _ ok) c.len-start.ensures (omega arith);
       few = search rules;
       small = search rules;
       parts_room = search rules;
       bytes_room = search rules;
-      chains_room = omega (arith, c.push.ensures.room);
-      wide = c.push.ensures.width ∙ wide;
-      chained = p.0;
+      chains_room = rw p.0 t.chains_room;
+      wide = ap width_in p.0 ∙ wide;
+      chained = ap buckets_in p.0;
       apart = p.1;
     }
 
 pub returns : goal.returns
 returns c =
+    let l : length (names_in c.args.self.now) ≡ vec_len c.args.self.now.parts = search (rules, length-map) in
     let s = (span 0 (vec_items c.args.self.now.parts) (vec_len c.args.self.now.bytes) c.args.self.now.ordered).1 in
     let ok : is_ok c.extend_from_slice.result ≡ true = c.extend_from_slice.ensures.succeeds (omega (arith, s, c.args.self.now.parts.ok.0)) in
-    let l : length (names_in c.args.self.now) ≡ vec_len c.args.self.now.parts = search (rules, length-map) in
     let P : ℕ → Type 0 = λ n. in_order 0 (vec_items c.args.self.now.parts) n ≡ true in
     let ordered : in_order 0 (vec_items c.args.self.now.parts) (length (vec_items c.args.self.now.bytes)) ≡ true =
     subst P c.args.self.now.bytes.ok.0 c.args.self.now.ordered in

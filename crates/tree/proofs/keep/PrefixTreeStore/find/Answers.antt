@@ -1,4 +1,4 @@
-use Rattle.std.proofs.Common.{sym, refl, ◌∙◌, arith}
+use Rattle.std.proofs.Common.{◌≡◌, None, rules, sym, refl, ◌∙◌, arith}
 use Rattle.trie.specs.Held.{edges_in, marks_in}
 use Rattle.trie.proofs.Steps.{walk_more}
 use Rattle.tree.specs.Held.{kept_in}
@@ -20,10 +20,11 @@ returns c =
     let s = c.args.self.now in
     deepest_all (edges_in s.trie) (marks_in s.trie) (kept_in s) c.args.node c.args.path.now c.step-at.result c.step-at.ensures s.tied c.loop-i.i c.loop-i.best (omega arith) c.loop-i.invariant.1
 
-pub returns-in-None : goal.returns-in-None
-returns-in-None c =
+pub returns-then-is_none : goal.returns-then-is_none
+returns-then-is_none c =
     let s = c.args.self.now in
     let t = s.trie in
     let p = c.args.path.now in
     let a = walk_more (edges_in t) c.step-at.result p c.loop-i.i c.loop-i.at c.step-at-in-loop-i.result (omega arith) c.loop-i.invariant.0 c.step-at-in-loop-i.ensures in
-    deepest_here (edges_in t) (marks_in t) (kept_in s) c.args.node p c.step-at.result c.step-at.ensures s.tied c.loop-i.i c.loop-i.best (omega arith) (sym a ∙ c.in-None.is) c.loop-i.invariant.1
+    let n : c.step-at-in-loop-i.result ≡ None = search rules in
+    deepest_here (edges_in t) (marks_in t) (kept_in s) c.args.node p c.step-at.result c.step-at.ensures s.tied c.loop-i.i c.loop-i.best (omega arith) (sym a ∙ n) c.loop-i.invariant.1

@@ -5,12 +5,12 @@ use Rattle.tree.specs.Held.{kept_in}
 use Rattle.tree.proofs.Ties.{mark_first}
 use Rattle.tree.proofs.keep.PrefixTreeStore.item.Goals as goal
 
-pub returns-in-None : goal.returns-in-None
-returns-in-None c =
+pub returns-in_err-number : goal.returns-in_err-number
+returns-in_err-number c =
     let s = c.args.self.now in
-    item_by (kept_in s) s.fit c.args.node c.args.left.now None c.args.k (c.in-None.ensures ∙ mark_first (mark_in s.trie) (kept_in s) s.tied c.args.node c.args.left.now)
+    c.from_residual.ensures ∙ item_by (kept_in s) s.fit c.args.node c.args.left.now None c.args.k (c.in_err-number.ensures ∙ mark_first (mark_in s.trie) (kept_in s) s.tied c.args.node c.args.left.now)
 
-pub returns-in-Some : goal.returns-in-Some
-returns-in-Some c =
+pub returns : goal.returns
+returns c =
     let s = c.args.self.now in
-    c.item_of.ensures ∙ item_by (kept_in s) s.fit c.args.node c.args.left.now (Some c.in-Some.number) c.args.k (c.in-Some.ensures ∙ mark_first (mark_in s.trie) (kept_in s) s.tied c.args.node c.args.left.now)
+    c.item_of.ensures ∙ item_by (kept_in s) s.fit c.args.node c.args.left.now (Some c.in_ok-number.number) c.args.k (c.in_ok-number.ensures ∙ mark_first (mark_in s.trie) (kept_in s) s.tied c.args.node c.args.left.now)

@@ -1,4 +1,5 @@
 // Answering a line of input.
+// Kept: a page and how far it is filled are passed apart, as the device has them.
 ghost use Rattle.std.specs.Prelude.{◌≡◌, true};
 ghost use Rattle.path.specs.Atoms.{atoms_of};
 ghost use Rattle.questions.specs.Lines.{names_of, asks, read_line, names_left};

@@ -1,9 +1,9 @@
 -- The bytes that are kept of a line.
-use Rattle.std.proofs.Common.{◌≡◌, ℕ, zero, suc, ◌+◌, ◌-◌, ◌<◌, ◌≤◌, min, Bool, true, false, cond, ltb, List, [], ◌∷◌, ◌++◌, length, take, drop, Some, None, sym, refl, ap, ◌∙◌, append-nil, arith, length-drop, drop_of_length-le, length-take, take_all}
+use Rattle.std.proofs.Common.{◌≡◌, ℕ, zero, suc, ◌-◌, ◌<◌, ◌≤◌, min, Bool, true, false, ltb, List, [], ◌∷◌, ◌++◌, length, take, drop, sym, refl, ap, ◌∙◌, append-nil, arith, drop_of_length-le, length-take, take_all}
 use Rattle.std.specs.List.{prefix_len}
-use Rattle.std.proofs.lemmas.Bool.{cond-true, cond-false, ltb-true, ltb-false, lt-ltb, le-ltb}
+use Rattle.std.proofs.lemmas.Bool.{cond-true, ltb-true, ltb-false, lt-ltb}
 use Rattle.questions.specs.Lines.{read_line}
-use Rattle.answers.specs.Input.{kept_bytes, no_feed_lem, to_feed, behind_feed, LongLinesNeedNotBeKept}
+use Rattle.answers.specs.Input.{kept_bytes, no_feed_lem, to_feed, LongLinesNeedNotBeKept}
 
 take_into : (k : ℕ) (xs ys : List ℕ) → length xs ≤ k → take k (xs ++ ys) ≡ xs ++ take (k - length xs) ys
 take_into k [] ys h = let e : k ≡ k - 0 = omega arith in ap (λ (j : ℕ). take j ys) e
@@ -40,24 +40,8 @@ drop_past : (from : ℕ) (block : List ℕ) → length block ≤ from → drop f
 drop_past from block h = drop_of_length-le block h
 
 module _ (block : List ℕ) (from : ℕ) where
-  pub part_to_feed : (end : ℕ) → end ≡ from + prefix_len no_feed_lem (drop from block) → take (end - from) (drop from block) ≡ to_feed block from
-  part_to_feed end e = let z : end - from ≡ prefix_len no_feed_lem (drop from block) = omega arith in ap (λ (k : ℕ). take k (drop from block)) z
-
-  pub past_block : length block < from → (xs : List ℕ) → length xs ≤ kept_bytes → (xs ≡ take kept_bytes (xs ++ to_feed block from)) × (None ≡ behind_feed block from)
+  pub past_block : length block < from → (xs : List ℕ) → length xs ≤ kept_bytes → xs ≡ take kept_bytes (xs ++ to_feed block from)
   past_block h xs k =
       let d : drop from block ≡ [] = drop_past from block (omega arith) in
-      let f : to_feed block from ≡ [] = ap (λ (l : List ℕ). take (prefix_len no_feed_lem l) l) d in (
-        sym (take_all kept_bytes xs k) ∙ ap (take kept_bytes) (sym (append-nil xs) ∙ ap (λ (l : List ℕ). xs ++ l) (sym f)),
-        ap (λ (l : List ℕ). cond (ltb (prefix_len no_feed_lem l) (length l)) (Some (from + prefix_len no_feed_lem l + 1)) None) (sym d),
-      )
-
-  module _ (h : from ≤ length block) (end : ℕ) (e : end ≡ from + prefix_len no_feed_lem (drop from block)) where
-    pub block_ends : end ≡ length block → None ≡ behind_feed block from
-    block_ends q =
-        let k = length-drop from block in
-        sym (cond-false _ _ _ (le-ltb (prefix_len no_feed_lem (drop from block)) (length (drop from block)) (omega arith)))
-
-    pub block_goes_on : end < length block → Some (end + 1) ≡ behind_feed block from
-    block_goes_on q =
-        let k = length-drop from block in
-        ap (λ (n : ℕ). Some (n + 1)) e ∙ sym (cond-true _ _ _ (lt-ltb (prefix_len no_feed_lem (drop from block)) (length (drop from block)) (omega arith)))
+      let f : to_feed block from ≡ [] = ap (λ (l : List ℕ). take (prefix_len no_feed_lem l) l) d in
+      sym (take_all kept_bytes xs k) ∙ ap (take kept_bytes) (sym (append-nil xs) ∙ ap (λ (l : List ℕ). xs ++ l) (sym f))

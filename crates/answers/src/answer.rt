@@ -1,4 +1,5 @@
 // Answering a line of input.
+// Kept: a page and how far it is filled are passed apart, as the device has them.
 ghost use Rattle.std.specs.Prelude.{◌≡◌, true};
 ghost use Rattle.path.specs.Atoms.{atoms_of};
 ghost use Rattle.questions.specs.Lines.{names_of, asks, read_line, names_left};
@@ -13,9 +14,7 @@ use lines::{write_answer, write_refused};
 use names::Names;
 use questions::{Asked, read_question};
 use stores::Store;
-
-/// The steps that each question is granted.
-const STEPS: u32 = 1_000_000;
+use terms::limits::STEPS;
 
 fn answer_question<S: Store>(
     asked: Asked,
@@ -53,16 +52,14 @@ pub fn answer_line<S: Store>(
     ensures right { AnsweredByTheRules (S.Store.means store.now).map (names_of names.old) line.now }
 {
     match read_question(line, names) {
-        Ok(asked) => match asked {
-            None => Answered {
-                machine,
-                end: Ok(fill),
-            },
-            Some(question) => answer_question(question, names, machine, store, page, fill),
+        Ok(None) => Answered {
+            machine,
+            end: Ok(fill),
         },
-        Err(fault) => {
-            let end = write_refused(fault.number(), fault.place(), page, fill);
-            Answered { machine, end }
-        }
+        Ok(Some(asked)) => answer_question(asked, names, machine, store, page, fill),
+        Err(fault) => Answered {
+            machine,
+            end: write_refused(fault.number(), fault.place(), page, fill),
+        },
     }
 }

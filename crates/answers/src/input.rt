@@ -8,23 +8,12 @@ use std::alloc::{AllocError, Global};
 
 const KEPT_BYTES: usize = 1025;
 
-fn no_feed(b: u8) -> bool
-    ensures { result ≡ no_feed_lem b }
+// How many bytes stand in front of the next line feed.
+fn line_len(bytes: &[u8]) -> usize
+    ensures within { result ≤ length bytes.now }
+    ensures value { result ≡ prefix_len no_feed_lem bytes.now }
 {
-    b != b'\n'
-}
-
-// The place of the next line feed, or the block's length.
-fn feed_at(block: &[u8], from: usize) -> usize
-    requires { from ≤ length block.now }
-    ensures within { result ≤ length block.now }
-    ensures value { result ≡ from + prefix_len no_feed_lem (drop from block.now) }
-{
-    let mut i = from;
-    while i < block.len() && no_feed(block[i]) {
-        i += 1;
-    }
-    i
+    bytes.iter().take_while(|b| **b != b'\n').count()
 }
 
 impl Line {
@@ -53,7 +42,7 @@ impl Line {
         ensures { bytes_in self.new ≡ take kept_bytes (bytes_in self.old ++ part.now) }
     {
         let n = part.len().min(KEPT_BYTES - self.bytes.len());
-        let _ = self.bytes.extend_from_slice(&part[0..n]);
+        let _ = self.bytes.extend_from_slice(&part[..n]);
     }
 
     /// Takes the bytes of a block up to the next line feed; answers the place behind that, or none where the block ends first.
@@ -61,21 +50,17 @@ impl Line {
         ensures bytes { bytes_in self.new ≡ take kept_bytes (bytes_in self.old ++ to_feed block.now from) }
         ensures behind { result ≡ behind_feed block.now from }
     {
-        if from > block.len() {
+        let rest = block.get(from..)?;
+        let len = line_len(rest);
+        self.extend(&rest[..len]);
+        if len == rest.len() {
             return None;
         }
-        let end = feed_at(block, from);
-        self.extend(&block[from..end]);
-        if end == block.len() {
-            return None;
-        }
-        Some(end + 1)
+        Some(from + len + 1)
     }
 }
 
 /// A line reads as its first 1,025 bytes do, so that no more need be kept of it.
-pub fn long_lines_need_not_be_kept() -> u8
+pub fn long_lines_need_not_be_kept()
     ensures { LongLinesNeedNotBeKept }
-{
-    0
-}
+{}

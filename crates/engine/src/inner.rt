@@ -8,6 +8,7 @@ use crate::table::Phase;
 use sentences::{Inside, Open, Question};
 use terms::Atom;
 
+// Kept: the three lists hold different things, and the memory of each is got when the machine is made.
 #[derive(Drop)]
 pub struct Machine {
     pub(crate) phase: Phase,

@@ -9,48 +9,49 @@ use crate::table::{Phase, Worked};
 use stores::Store;
 use terms::Item;
 
-/// The item that a machine at work wants next.
-fn wanted<S: Store>(store: &S, machine: &Machine) -> Option<Item>
-    requires { machine.now.phase ≡ Phase.Works }
-    ensures { result ≡ next_item (S.Store.means store.now).map (positions_in machine.now) }
-{
-    let top = machine.top();
-    let path = top.at.path.as_slice();
-    store.item(top.at.node, &path[0..top.left], top.place)
-}
-
-/// Works one item. There is a place for the inside of every path of a map within the limits; a machine that had none would stop.
-fn turn<S: Store>(store: &S, machine: &mut Machine)
-    requires works { machine.old.phase ≡ Phase.Works }
-    ensures less { work_left (progress_of machine.new) < work_left (progress_of machine.old) }
-    ensures took { TakesAnItem (S.Store.means store.now) machine.old machine.new }
-{
-    let item = wanted(store, machine);
-    if machine.has_room(item) {
-        machine.take(item);
-    } else {
-        machine.overflow();
-    }
-}
-
-/// One step: the look-up for the question asked, and the work that follows it. Says how often the store was asked.
-fn step<S: Store>(store: &S, machine: &mut Machine) -> u64
-    requires asks { machine.old.phase ≡ Phase.Asks }
-    ensures bounded { result ≤ asked_limit }
-    ensures rests { Rests machine.new.phase }
-    ensures steps { TakesAStep (S.Store.means store.now) machine.old machine.new result }
-{
-    let left = store.find(machine.asked.node, machine.asked.path.as_slice());
-    machine.found(left);
-    let mut items: u64 = 0;
-    while let Phase::Works = machine.phase {
-        turn(store, machine);
-        items += 1;
-    }
-    items + 1
-}
-
 impl Machine {
+    /// The item that is wanted next.
+    fn wanted<S: Store>(&self, store: &S) -> Option<Item>
+        requires { self.now.phase ≡ Phase.Works }
+        ensures { result ≡ next_item (S.Store.means store.now).map (positions_in self.now) }
+    {
+        let top = self.top();
+        let path = top.at.path.as_slice();
+        store.item(top.at.node, &path[..top.left], top.place)
+    }
+
+    /// Works one item. There is a place for the inside of every path of a map within the limits; a machine that had none would stop.
+    fn turn<S: Store>(&mut self, store: &S)
+        requires works { self.old.phase ≡ Phase.Works }
+        ensures less { work_left (progress_of self.new) < work_left (progress_of self.old) }
+        ensures took { TakesAnItem (S.Store.means store.now) self.old self.new }
+    {
+        let item = self.wanted(store);
+        if self.has_room(item) {
+            self.take(item);
+        } else {
+            self.overflow();
+        }
+    }
+
+    /// One step: the look-up for the question asked, and the work that follows it. Says how often the store was asked.
+    // Kept: the items are counted since the number is the answer; the loop ends by the phase.
+    fn step<S: Store>(&mut self, store: &S) -> u64
+        requires asks { self.old.phase ≡ Phase.Asks }
+        ensures bounded { result ≤ asked_limit }
+        ensures rests { Rests self.new.phase }
+        ensures steps { TakesAStep (S.Store.means store.now) self.old self.new result }
+    {
+        let left = store.find(self.asked.node, self.asked.path.as_slice());
+        self.found(left);
+        let mut items: u64 = 0;
+        while let Phase::Works = self.phase {
+            self.turn(store);
+            items += 1;
+        }
+        items + 1
+    }
+
     /// Takes steps until so many are taken or the end is reached.
     pub fn work<S: Store>(&mut self, store: &S, granted: u32) -> Worked
         ensures most { result.steps ≤ granted }
@@ -62,7 +63,7 @@ impl Machine {
             let Phase::Asks = self.phase else {
                 return Worked { steps, requests };
             };
-            requests += step(store, self);
+            requests += self.step(store);
         }
         Worked {
             steps: granted,

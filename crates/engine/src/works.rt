@@ -29,6 +29,7 @@ fn advance(top: &mut Open)
     top.place += 1;
 }
 
+// Kept: in which phase the machine is and where its last sentence stands change within these methods, so that clauses say it and no type.
 impl Machine {
     /// Whether a sentence is open for the same question.
     fn is_open(&self, question: &Question) -> bool

@@ -14,13 +14,6 @@ pub(crate) fn atom_name(names: &Names, atom: Atom) -> &[u8]
     names.atom_name(atom).unwrap_or(&[])
 }
 
-/// The name of a node, or no bytes.
-pub(crate) fn node_name(names: &Names, node: Node) -> &[u8]
-    ensures { result.now ≡ name_or_none (nodes_in names.now) node.0 }
-{
-    names.node_name(node).unwrap_or(&[])
-}
-
 fn is_named(names: &Names, atom: Atom) -> bool
     ensures { result ≡ named (atoms_in names.now) atom }
 {

@@ -8,7 +8,6 @@ ghost use Rattle.lines.specs.Lines.{question_spelled, word_bytes, said_by, answe
 ghost use Rattle.lines.specs.Pens.{Spells};
 
 use crate::content::{Answer, Content, Refused};
-use crate::known::node_name;
 use crate::pen::Pen;
 use engine::Stop;
 use evaluator::Outcome;
@@ -43,7 +42,7 @@ impl Pen<'_> {
     fn put_question(&mut self, names: &Names, question: &Question)
         ensures { Spells self.old (question_spelled names.now question.now) self.new }
     {
-        self.put(node_name(names, question.node()));
+        self.put(names.node_name(question.node()).unwrap_or(&[]));
         self.put(b":<");
         self.put_path(names, question.path());
         self.put(b">");

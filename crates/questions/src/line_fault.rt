@@ -18,6 +18,7 @@ pub enum LineFault {
     PathTooLong,
 }
 
+// Kept: both conversions are written by hand, since derived ones would not say which fault `?` makes.
 impl From<WordFault> for LineFault {
     ghost from_gives = { λ e r. r ≡ fault.Word e };
 
@@ -35,6 +36,7 @@ impl From<NameFault> for LineFault {
 }
 
 impl LineFault {
+    // Kept: a fault of words has a number of its own, so that no discriminants serve.
     pub fn number(self) -> u8
         ensures { result ≡ number self }
     {

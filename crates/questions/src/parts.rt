@@ -54,6 +54,7 @@ fn numbered_atom(names: &mut Names, name: &[u8], place: usize) -> Result<Atom, N
 }
 
 // The atoms of a path and its >; none where they are more than a path may have.
+// Kept here and below: that names only grow is said of two states of a table, which no type holds.
 fn path_atoms(reader: &mut WordReader<'_>, names: &mut Names) -> Result<Option<Path>, LineFault>
     ensures reads { ReadsAtoms (names_of names.old) (words_left reader.old) result (names_of names.new) (words_left reader.new) }
     ensures grows { Grown (names_of names.old) (names_of names.new) }

@@ -10,6 +10,7 @@ use engine::Phase;
 use sentences::Question;
 use terms::Atom;
 
+// Kept: each call that shows something promises by itself that what is shown is right.
 impl<S> Evaluator<S> {
     /// Idle, unfinished, or the outcome of the question held.
     pub fn outcome(&self) -> Outcome

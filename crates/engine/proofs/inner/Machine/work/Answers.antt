@@ -16,7 +16,7 @@ loop-steps-preserved g c =
     let M = (g.S.Store.means c.args.store.now).map in
     let m = c.args.self.now in
     let w = c.loop-steps.self in
-    let z = c.step-requests.new.machine in
+    let z = c.step-requests.new.self in
     let p = state_in M m in
     let k = c.loop-steps.steps in (
       omega (arith, c.loop-steps.invariant.0, c.step-requests.ensures.bounded),

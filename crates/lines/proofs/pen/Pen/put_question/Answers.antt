@@ -1,4 +1,5 @@
-use Rattle.std.proofs.Common.{ap, ◌∙◌}
+use Rattle.std.proofs.Common.{◌≡◌, ap, ◌∙◌, arith}
+use Rattle.std.proofs.lemmas.Grind.{common_steps}
 use Rattle.terms.specs.declared.items.Node.{Node}
 use Rattle.names.specs.Tables.{nodes_in, atoms_in}
 use Rattle.sentences.specs.Kept.{question_of}
@@ -11,8 +12,9 @@ pub returns : goal.returns
 returns c =
     let nodes = nodes_in c.args.names.now in
     let atoms = atoms_in c.args.names.now in
+    let name : c.unwrap_or.result.now ≡ name_or_none nodes c.node.result.0 = grind (arith, common_steps) in
     spells
-    (ap (λ p. question_bytes c.node_name.result.now (names_of atoms p)) c.path.ensures
+    (ap (λ p. question_bytes c.unwrap_or.result.now (names_of atoms p)) c.path.ensures
     ∙ ap (λ x. question_bytes x (names_of atoms (question_of c.args.question.now).path))
-    (c.node_name.ensures ∙ ap (λ (n : Node). name_or_none nodes n.0) c.node.ensures))
+    (name ∙ ap (λ (n : Node). name_or_none nodes n.0) c.node.ensures))
     (then c.put.ensures (then c.put-2.ensures (then c.put_path.ensures c.put-3.ensures)))

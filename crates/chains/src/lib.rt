@@ -11,6 +11,7 @@ struct Link {
 }
 
 /// `heads` has the last entry of each bucket. There is memory for `room` entries.
+// Kept: all memory is got at creation, so entries are named by their numbers.
 #[derive(Drop)]
 pub struct Chains {
     room: usize,

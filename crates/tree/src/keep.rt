@@ -19,6 +19,7 @@ use trie::Trie;
 
 impl PrefixTree {
     // What it keeps at most.
+    // Kept beside the list's: one function for all keepers was tried, and its call in `add` leads back to the proof of `add`.
     fn most() -> Room
         ensures { result ≡ record { sentences = 2048; atoms = 8192; items = 32768 } }
     {

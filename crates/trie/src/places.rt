@@ -1,6 +1,6 @@
 // Walking down the tree, and marking the place of a node and a left path.
 ghost use Rattle.std.specs.Prelude.{◌≡◌, ℕ, ◌+◌, ◌-◌, ◌<◌, ◌≤◌, List, [], ◌∷◌, ◌++◌, map, length, IfOk, OnOk, OnErr, Ok, Err, Some, None, ◌≢◌, if◌then◌else◌, nat_lt, slice_index_or, slice_set};
-ghost use Rattle.trie.specs.Ways.{bucket, child_of, go, mark_at_lem, is_edge, blank, num, word_of};
+ghost use Rattle.trie.specs.Ways.{bucket_of_lem, child_of, go, mark_at_lem, is_edge, blank, num, word_of};
 ghost use Rattle.trie.specs.declared.InsertError.{InsertError};
 ghost use Rattle.trie.specs.Held.{edges_in, marks_in, room_in, place_in, mark_in, Grows};
 
@@ -9,11 +9,12 @@ use chains::Chains;
 use std::alloc::{AllocError, Global};
 use terms::{Atom, Node};
 
-fn bucket_of(parent: usize, label: u16) -> usize
+fn bucket_of(edge: Edge) -> usize
     ensures small { result < 8192 }
-    ensures is { result ≡ bucket parent label }
+    ensures is { result ≡ bucket_of_lem edge }
 {
-    ((((parent % 32768) * 65536 + label as usize) * 2_654_435_769) % 2_147_483_648) / 262_144
+    ((((edge.parent % 32768) * 65536 + edge.label as usize) * 2_654_435_769) % 2_147_483_648)
+        / 262_144
 }
 
 impl Trie {
@@ -46,14 +47,13 @@ impl Trie {
         edge == self.places[i].edge
     }
 
-    // The place below another by a label.
-    fn child(&self, parent: usize, label: u16) -> Option<usize>
-        ensures { result ≡ child_of (edges_in self.now) parent label }
+    // The place to which an edge leads.
+    fn child(&self, edge: Edge) -> Option<usize>
+        ensures { result ≡ child_of (edges_in self.now) edge.parent edge.label }
     {
-        let edge = Edge { parent, label };
         let last = self
             .chains
-            .find(bucket_of(parent, label), |i| self.is_edge_at(i, edge))?;
+            .find(bucket_of(edge), |i| self.is_edge_at(i, edge))?;
         Some(last + 1)
     }
 
@@ -61,7 +61,7 @@ impl Trie {
     pub fn step(&self, at: Option<usize>, label: u16) -> Option<usize>
         ensures { result ≡ go (edges_in self.now) at label }
     {
-        at.and_then(|parent| self.child(parent, label))
+        at.and_then(|parent| self.child(Edge { parent, label }))
     }
 
     /// The mark at a place, if there is one.
@@ -86,21 +86,20 @@ impl Trie {
         self.mark_at(self.place_of(node, left))
     }
 
-    // The place below another, made where it is not there.
-    fn make_child(&mut self, parent: usize, label: u16) -> usize
-        requires there { parent ≤ length (edges_in self.old) }
+    // The place to which an edge leads, made where it is not there.
+    fn make_child(&mut self, edge: Edge) -> usize
+        requires there { edge.parent ≤ length (edges_in self.old) }
         requires room { length (edges_in self.old) < room_in self.old }
-        ensures leads { (w : List ℕ) → place_in self.old w ≡ Some parent → place_in self.new (w ++ label ∷ []) ≡ Some result }
+        ensures leads { (w : List ℕ) → place_in self.old w ≡ Some edge.parent → place_in self.new (w ++ edge.label ∷ []) ≡ Some result }
         ensures low { 0 < result }
         ensures within { result ≤ length (edges_in self.new) }
         ensures grows { Grows self.old self.new 1 }
     {
-        if let Some(place) = self.child(parent, label) {
+        if let Some(place) = self.child(edge) {
             return place;
         }
-        let edge = Edge { parent, label };
         self.places.push_reserved(Place { edge, mark: None });
-        let _ = self.chains.push(bucket_of(parent, label));
+        let _ = self.chains.push(bucket_of(edge));
         self.places.len()
     }
 
@@ -116,7 +115,10 @@ impl Trie {
     {
         let mut at = from;
         for atom in left {
-            at = self.make_child(at, atom.0);
+            at = self.make_child(Edge {
+                parent: at,
+                label: atom.0,
+            });
         }
         at
     }
@@ -144,7 +146,10 @@ impl Trie {
         if left.len() >= self.room || self.places.len() >= self.room - left.len() {
             return Err(InsertError::Full);
         }
-        let root = self.make_child(0, node.0);
+        let root = self.make_child(Edge {
+            parent: 0,
+            label: node.0,
+        });
         let place = self.follow(root, left);
         self.mark(place, number);
         Ok(())

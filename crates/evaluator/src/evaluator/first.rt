@@ -8,6 +8,7 @@ use sentences::Question;
 use terms::{Atom, Node};
 
 /// Whether the numbers of all atoms are in range.
+// Kept: stores has the like for its own sentences, in private, and one line is plainer than an export.
 fn in_range(path: &[Atom]) -> bool
     ensures { result ≡ every atom_in_range path.now }
 {

@@ -55,10 +55,10 @@ abbrev pub posed : Option Kept → List Position → Built → State Position
 posed None os h = stops outcomes.Stop.path
 posed (Some q) os h = pose (questions_at os) (question_of q) os h
 
--- a tested question, or why there is none
-abbrev pub asked_or_stopped : Result Kept Stop → List Position → Built → State Position
-asked_or_stopped (Ok q) os h = asks (question_of q) os h
-asked_or_stopped (Err s) os h = stops (stop_of s)
+-- a question that is asked, or why it is not
+abbrev pub asked_or_stopped : Kept → Result (Unit {0}) Stop → List Position → Built → State Position
+asked_or_stopped q (Ok u) os h = asks (question_of q) os h
+asked_or_stopped q (Err s) os h = stops (stop_of s)
 
 abbrev pub built_in : Machine → Built
 built_in m = built_of (vec_items m.insides) (whole (vec_items m.value))

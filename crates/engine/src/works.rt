@@ -38,27 +38,30 @@ impl Machine {
         self.table.iter().any(|open| open.is_for(question))
     }
 
-    /// Tests a new question, for path, circle and depth in turn.
-    fn tested(&self, asked: Option<Question>) -> Result<Question, Stop>
-        ensures posed { asked_or_stopped result (positions_in self.now) (built_in self.now) ≡ posed asked (positions_in self.now) (built_in self.now) }
+    /// Tests a new question, for circle and depth in turn.
+    fn test(&self, question: &Question) -> Result<(), Stop>
+        ensures posed { asked_or_stopped question.now result (positions_in self.now) (built_in self.now) ≡ posed (Some question.now) (positions_in self.now) (built_in self.now) }
         ensures room { OnOk result (vec_len self.now.table < open_limit) }
     {
-        let question = asked.ok_or(Stop::Path)?;
-        if self.is_open(&question) {
+        if self.is_open(question) {
             return Err(Stop::Circular);
         }
         if self.table.len() >= OPEN_SENTENCES {
             return Err(Stop::Depth);
         }
-        Ok(question)
+        Ok(())
     }
 
     /// Tests a new question, and asks it.
     fn pose(&mut self, asked: Option<Question>)
         ensures { progress_of self.new ≡ reached (posed asked (positions_in self.old) (built_in self.old)) }
     {
-        match self.tested(asked) {
-            Ok(question) => {
+        let Some(question) = asked else {
+            self.phase = Phase::Stops(Stop::Path);
+            return;
+        };
+        match self.test(&question) {
+            Ok(()) => {
                 self.phase = Phase::Asks;
                 self.asked = question;
             }

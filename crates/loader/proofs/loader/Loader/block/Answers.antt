@@ -8,45 +8,31 @@ use Rattle.loader.proofs.Runs
 use Rattle.loader.proofs.Sentences
 use Rattle.loader.proofs.loader.Loader.block.Goals as goal
 
-pub returns-in_default : goal.returns-in_default
-returns-in_default g c =
+pub returns-in_default-clause-goes : goal.returns-in_default-clause-goes
+returns-in_default-clause-goes g c =
     let h = sym (ap number_in_range c.requires.starts) ∙ c.args.reader.now.parser.numbered in
-    let not : c.advance.new.self.parser.word ≡ Ok w.Colon → ⊥ = λ q. grind arith in record {
-      goes = λ bs q. Sentences.no_colon g.K.Keeper.limits c.args.node _ _ _ _ c.requires.starts h _ _ _ _ c.advance.ensures.moves not c.misplaced.result c.misplaced.ensures.number c.misplaced.ensures.place bs;
-      onward = c.advance.ensures.onward;
-      less = λ e. absurd (grind arith);
-    }
+    let not : c.advance.new.self.parser.word ≡ Ok w.Colon → ⊥ = λ q. grind arith in λ bs q. Sentences.no_colon g.K.Keeper.limits c.args.node _ _ _ _ c.requires.starts h _ _ _ _ c.advance.ensures.moves not c.misplaced.result c.misplaced.ensures.number c.misplaced.ensures.place bs
 
-pub loop-next-init : goal.loop-next-init
-loop-next-init g c = (Sentences.nothing_yet g.K.Keeper.limits c.args.node _ _ _ _ c.clear.ensures.items, Onward.still _, omega arith)
-
-pub next_part-requires : goal.next_part-requires
-next_part-requires g c =
+pub next_part-requires-clause-few : goal.next_part-requires-clause-few
+next_part-requires-clause-few g c =
     let h = sym (ap number_in_range c.requires.starts) ∙ c.args.reader.now.parser.numbered in
     let q : c.advance.new.self.parser.word ≡ Ok w.Colon = search rules in
     let z₁ = Runs.one_word c.args.reader.now.parser.place c.args.reader.now.parser.word (w.Node c.args.node) _ _ c.requires.starts refl c.advance.ensures.size in
     let z₂ = Runs.one_word c.advance.new.self.parser.place c.advance.new.self.parser.word w.Colon _ _ q refl c.advance-2.ensures.size in
-    record { few = omega (arith, c.loop-next.invariant.2); named = h; left = c.loop-next.invariant.0.in_range }
-
-pub loop-next-smaller : goal.loop-next-smaller
-loop-next-smaller g c = c.in_ok-next.ensures.less refl
+    omega (arith, c.loop-next.invariant.2)
 
 pub loop-next-preserved : goal.loop-next-preserved
 loop-next-preserved g c =
     let told = c.in_ok-next.ensures in
     (Sentences.part_read g.K.Keeper.limits c.args.node body _ _ _ _ _ _ _ _ c.in-Some.due c.in-Some.is c.loop-next.invariant.0 _ _ _ _ _ told.goes, Onward.on _ _ _ c.loop-next.invariant.1 told.onward, omega (arith, told.less refl, c.loop-next.invariant.2))
 
-pub returns-in_err-next : goal.returns-in_err-next
-returns-in_err-next g c =
+pub returns-in_err-next-clause-goes : goal.returns-in_err-next-clause-goes
+returns-in_err-next-clause-goes g c =
     let h = sym (ap number_in_range c.requires.starts) ∙ c.args.reader.now.parser.numbered in
     let q : c.advance.new.self.parser.word ≡ Ok w.Colon = search rules in
     let p = err_from_is_err_and c.from_residual.result c.from_residual.ensures.1 in
     let told = c.in_err-next.ensures in
-    record {
-      goes = rw (p.1, p.2) (Sentences.block_refused g.K.Keeper.limits c.args.node _ _ _ _ c.requires.starts h _ _ _ _ c.advance.ensures.moves q _ _ c.advance-2.ensures.moves _ c.in_err-next.field-0.0 (Sentences.part_refused g.K.Keeper.limits c.args.node body _ _ _ _ _ _ _ _ c.in-Some.due c.in-Some.is c.loop-next.invariant.0 c.in_err-next.field-0.0 told.goes));
-      onward = Onward.on _ _ _ (Onward.on _ _ _ (Onward.on _ _ _ c.advance.ensures.onward c.advance-2.ensures.onward) c.loop-next.invariant.1) told.onward;
-      less = rw p.1 (λ q. absurd (grind arith));
-    }
+    rw (p.1, p.2) (Sentences.block_refused g.K.Keeper.limits c.args.node _ _ _ _ c.requires.starts h _ _ _ _ c.advance.ensures.moves q _ _ c.advance-2.ensures.moves _ c.in_err-next.field-0.0 (Sentences.part_refused g.K.Keeper.limits c.args.node body _ _ _ _ _ _ _ _ c.in-Some.due c.in-Some.is c.loop-next.invariant.0 c.in_err-next.field-0.0 told.goes))
 
 pub returns : goal.returns
 returns g c =

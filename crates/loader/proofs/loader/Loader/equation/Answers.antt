@@ -1,6 +1,5 @@
 use Rattle.std.proofs.Common.{refl, arith, ◌≡◌, Ok, rules}
 use Rattle.lookahead.specs.declared.word.Word.TheVariants as w
-use Rattle.loader.proofs.Onward
 use Rattle.loader.proofs.Runs
 use Rattle.loader.proofs.Turns.{by_number}
 use Rattle.loader.proofs.Marks
@@ -15,11 +14,7 @@ returns-in-Ok-Stop c =
       less = λ e. omega (arith, Runs.one_word c.args.reader.now.parser.place c.args.reader.now.parser.word w.Stop _ _ q refl c.advance.ensures.size);
     }
 
-pub returns-in_default : goal.returns-in_default
-returns-in_default c =
+pub returns-in_default-clause-goes : goal.returns-in_default-clause-goes
+returns-in_default-clause-goes c =
     let not_less : c.args.reader.now.parser.word ≡ Ok w.Less → ⊥ = λ q. grind arith in
-    let not_stop : c.args.reader.now.parser.word ≡ Ok w.Stop → ⊥ = λ q. grind arith in record {
-      goes = λ l n kept f i. by_number l _ _ _ _ _ c.misplaced.result (Marks.no_equation l f _ _ _ not_less not_stop) c.misplaced.ensures.number c.misplaced.ensures.place;
-      onward = Onward.still _;
-      less = λ e. absurd (grind arith);
-    }
+    let not_stop : c.args.reader.now.parser.word ≡ Ok w.Stop → ⊥ = λ q. grind arith in λ l n kept f i. by_number l _ _ _ _ _ c.misplaced.result (Marks.no_equation l f _ _ _ not_less not_stop) c.misplaced.ensures.number c.misplaced.ensures.place

@@ -6,18 +6,14 @@ use Rattle.loader.proofs.Runs
 use Rattle.loader.proofs.Sentences.{from_state, due_equation, due_round, due_bare}
 use Rattle.loader.proofs.loader.Loader.next_part.Goals as goal
 
-pub round_side-requires : goal.round_side-requires
-round_side-requires g c =
+pub round_side-requires-clause-few : goal.round_side-requires-clause-few
+round_side-requires-clause-few g c =
     let q : c.args.reader.now.parser.word ≡ Ok w.Open = search rules in
     let z = Runs.one_word c.args.reader.now.parser.place c.args.reader.now.parser.word w.Open _ _ q refl c.advance.ensures.size in
-    record { few = omega arith; named = c.requires.named; left = c.requires.left }
+    omega arith
 
-pub returns-in-Equation : goal.returns-in-Equation
-returns-in-Equation g c = record {
-  goes = from_state g.K.Keeper.limits c.args.node _ body _ _ _ _ (due_equation g.K.Keeper.limits _ _ _ c.args.due c.in-Equation.is) _ _ _ _ _ _ (c.equation.ensures.goes g.K.Keeper.limits c.args.node (g.K.Keeper.kept c.args.keeper.now));
-  onward = c.equation.ensures.onward;
-  less = c.equation.ensures.less;
-}
+pub returns-in-Equation-clause-goes : goal.returns-in-Equation-clause-goes
+returns-in-Equation-clause-goes g c = from_state g.K.Keeper.limits c.args.node _ body _ _ _ _ (due_equation g.K.Keeper.limits _ _ _ c.args.due c.in-Equation.is) _ _ _ _ _ _ (c.equation.ensures.goes g.K.Keeper.limits c.args.node (g.K.Keeper.kept c.args.keeper.now))
 
 pub returns-in-Ok-Open : goal.returns-in-Ok-Open
 returns-in-Ok-Open g c =
@@ -29,10 +25,6 @@ returns-in-Ok-Open g c =
       less = λ e. omega (arith, c.round_side.ensures.less e);
     }
 
-pub returns-in_default : goal.returns-in_default
-returns-in_default g c =
-    let not : c.args.reader.now.parser.word ≡ Ok w.Open → ⊥ = λ q. grind arith in record {
-      goes = from_state g.K.Keeper.limits c.args.node _ _ _ _ _ _ (due_bare g.K.Keeper.limits _ c.args.due c.in-RightSide.place c.in-RightSide.is _ _ _ _ not) _ _ _ _ _ _ c.bare_side.ensures.goes;
-      onward = c.bare_side.ensures.onward;
-      less = c.bare_side.ensures.less;
-    }
+pub returns-in_default-clause-goes : goal.returns-in_default-clause-goes
+returns-in_default-clause-goes g c =
+    let not : c.args.reader.now.parser.word ≡ Ok w.Open → ⊥ = λ q. grind arith in from_state g.K.Keeper.limits c.args.node _ _ _ _ _ _ (due_bare g.K.Keeper.limits _ c.args.due c.in-RightSide.place c.in-RightSide.is _ _ _ _ not) _ _ _ _ _ _ c.bare_side.ensures.goes

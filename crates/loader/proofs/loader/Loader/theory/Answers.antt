@@ -1,36 +1,17 @@
-use Rattle.std.proofs.Common.{[], refl, ◌∙◌, arith, ◌≡◌, Ok, ap, rules}
-use Rattle.std.proofs.lemmas.Result.{err_from_is_err_and}
+use Rattle.std.proofs.Common.{[], ◌∙◌, arith, ◌≡◌, Ok, ap, rules}
 use Rattle.grammar.specs.Parsing.{between}
 use Rattle.lookahead.specs.Ahead.{names_of}
 use Rattle.terms.specs.declared.items.Node.{Node}
 use Rattle.faults.specs.Grammar.{number, place}
 use Rattle.lookahead.specs.declared.word.Word.TheVariants as w
-use Rattle.loader.proofs.Onward
 use Rattle.loader.proofs.Theories
 use Rattle.loader.proofs.loader.Loader.theory.Goals as goal
 
-pub loop-reader-init : goal.loop-reader-init
-loop-reader-init g c = (Theories.no_blocks _ _ _ _ c.requires.empty, Onward.still _, omega arith)
-
-pub block-requires : goal.block-requires
-block-requires g c =
+pub block-requires-clause-few : goal.block-requires-clause-few
+block-requires-clause-few g c =
     let q : c.loop-reader.reader.parser.word ≡ Ok (w.Node c.in-Ok-Node.node) = search rules in
     let z = Theories.few_words (names_of c.args.names.now) c.args.text.now in
-    record { few = omega (arith, c.loop-reader.invariant.2, c.new-parser.ensures.size); starts = q }
-
-pub loop-reader-smaller : goal.loop-reader-smaller
-loop-reader-smaller g c = c.in_ok-block.ensures.less refl
-
-pub loop-reader-preserved : goal.loop-reader-preserved
-loop-reader-preserved g c =
-    let told = c.in_ok-block.ensures in
-    (Theories.block_more _ _ _ _ _ _ c.loop-reader.invariant.0 _ _ _ told.goes, Onward.on _ _ _ c.loop-reader.invariant.1 told.onward, omega (arith, told.less refl, c.loop-reader.invariant.2))
-
-pub returns-in_err-block-clause-goes : goal.returns-in_err-block-clause-goes
-returns-in_err-block-clause-goes g c =
-    let p = err_from_is_err_and c.from_residual.result c.from_residual.ensures.1 in
-    let told = c.in_err-block.ensures in
-    rw (p.1, p.2) (c.new-parser.ensures.moves _ (between []) ∙ Theories.block_bad _ _ _ _ _ _ c.loop-reader.invariant.0 c.in_err-block.field-0.0 told.goes)
+    omega (arith, c.loop-reader.invariant.2, c.new-parser.ensures.size)
 
 pub returns-in-Ok-End-clause-goes : goal.returns-in-Ok-End-clause-goes
 returns-in-Ok-End-clause-goes g c =

@@ -3,7 +3,7 @@ use Rattle.std.proofs.lemmas.Result.{err_from_is_err_and}
 use Rattle.std.proofs.lemmas.Bool.{and_from}
 use Rattle.terms.specs.Terms.{done, atom, node}
 use Rattle.terms.specs.declared.items.Quoting.TheVariants.{Plain as plain, Quoted as quoted}
-use Rattle.grammar.specs.Parsing.{then, within}
+use Rattle.grammar.specs.Parsing.{within}
 use Rattle.faults.specs.Grammar.{number, place}
 use Rattle.lookahead.specs.Ahead.{names_of, later}
 use Rattle.terms.specs.declared.items.Node.{Node}
@@ -15,20 +15,12 @@ use Rattle.loader.proofs.Onward
 use Rattle.loader.proofs.Turns
 use Rattle.loader.proofs.reader.Reader.+term_readers.Goals as goal
 
-pub named_path-returns-in_default : goal.named_path-returns-in_default
-named_path-returns-in_default t c =
-    let not : c.args.self.now.parser.word ≡ Ok w.Less → ⊥ = λ q. grind arith in record {
-      goes = λ l h r f b d. Turns.by_number l _ _ _ _ _ c.misplaced.result (Runs.no_path l h r _ _ f b _ _ _ not) c.misplaced.ensures.number c.misplaced.ensures.place;
-      less = λ e. absurd (grind arith);
-      takes = record { onward = Onward.still _; capacity = refl; each = λ e. absurd (grind arith) };
-    }
+pub named_path-returns-in_default-clause-goes : goal.named_path-returns-in_default-clause-goes
+named_path-returns-in_default-clause-goes t c =
+    let not : c.args.self.now.parser.word ≡ Ok w.Less → ⊥ = λ q. grind arith in λ l h r f b d. Turns.by_number l _ _ _ _ _ c.misplaced.result (Runs.no_path l h r _ _ f b _ _ _ not) c.misplaced.ensures.number c.misplaced.ensures.place
 
-pub named_path-returns-in-Ok-Less : goal.named_path-returns-in-Ok-Less
-named_path-returns-in-Ok-Less t c = record {
-  goes = Turns.path_term _ _ _ _ _ _ _ _ _ _ _ c.path.ensures.goes;
-  less = λ e. omega (arith, c.path.ensures.less e);
-  takes = record { onward = c.path.ensures.takes.onward; capacity = c.path.ensures.takes.capacity; each = λ e. omega (arith, c.path.ensures.takes.each e) };
-}
+pub named_path-returns-in-Ok-Less-clause-goes : goal.named_path-returns-in-Ok-Less-clause-goes
+named_path-returns-in-Ok-Less-clause-goes t c = Turns.path_term _ _ _ _ _ _ _ _ _ _ _ c.path.ensures.goes
 
 pub after_node-named_path-requires : goal.after_node-named_path-requires
 after_node-named_path-requires t c =
@@ -46,21 +38,13 @@ after_node-returns-in-Ok-Colon t c =
       takes = record { onward = Onward.on _ _ _ c.advance.ensures.onward c.named_path.ensures.takes.onward; capacity = c.named_path.ensures.takes.capacity; each = λ e. omega (arith, c.named_path.ensures.takes.each e) };
     }
 
-pub after_node-returns-in_default : goal.after_node-returns-in_default
-after_node-returns-in_default t c =
-    let not : c.args.self.now.parser.word ≡ Ok w.Colon → ⊥ = λ q. grind arith in record {
-      goes = Turns.one_term _ _ (node plain c.args.node done) (and_from _ _ c.requires.named refl) (omega arith) _ _ _ _ _ _ _ (Turns.stays _ _) c.push_reserved.ensures.items (λ l h r f b d. Runs.settled l h r _ f b _ _ _ not);
-      less = λ e. omega arith;
-      takes = record { onward = Onward.still _; capacity = c.push_reserved.ensures.capacity; each = λ e. omega (arith, c.push_reserved.ensures.len) };
-    }
+pub after_node-returns-in_default-clause-goes : goal.after_node-returns-in_default-clause-goes
+after_node-returns-in_default-clause-goes t c =
+    let not : c.args.self.now.parser.word ≡ Ok w.Colon → ⊥ = λ q. grind arith in Turns.one_term _ _ (node plain c.args.node done) (and_from _ _ c.requires.named refl) (omega arith) _ _ _ _ _ _ _ (Turns.stays _ _) c.push_reserved.ensures.items (λ l h r f b d. Runs.settled l h r _ f b _ _ _ not)
 
-pub after_quote-returns-in-Ok-UnnumberedNode : goal.after_quote-returns-in-Ok-UnnumberedNode
-after_quote-returns-in-Ok-UnnumberedNode t c =
-    let q : c.args.self.now.parser.word ≡ Ok w.UnnumberedNode = search rules in record {
-      goes = λ l h r f b d. Turns.by_number l _ _ _ _ _ c.no_number.result (Runs.no_quoted_node l h r f b _ _ _ q (omega arith)) (ap number c.no_number.ensures) (ap place c.no_number.ensures);
-      less = λ e. absurd (grind arith);
-      takes = record { onward = Onward.still _; capacity = refl; each = λ e. absurd (grind arith) };
-    }
+pub after_quote-returns-in-Ok-UnnumberedNode-clause-goes : goal.after_quote-returns-in-Ok-UnnumberedNode-clause-goes
+after_quote-returns-in-Ok-UnnumberedNode-clause-goes t c =
+    let q : c.args.self.now.parser.word ≡ Ok w.UnnumberedNode = search rules in λ l h r f b d. Turns.by_number l _ _ _ _ _ c.no_number.result (Runs.no_quoted_node l h r f b _ _ _ q (omega arith)) (ap number c.no_number.ensures) (ap place c.no_number.ensures)
 
 pub after_quote-after_quoted_node-requires : goal.after_quote-after_quoted_node-requires
 after_quote-after_quoted_node-requires t c =
@@ -68,12 +52,8 @@ after_quote-after_quoted_node-requires t c =
     let z = Runs.one_word c.args.self.now.parser.place c.args.self.now.parser.word (w.Node c.in-Ok-Node.n) _ _ q refl c.advance.ensures.size in
     (search rules, (omega arith, (c.requires.depth, sym (ap number_in_range q) ∙ c.args.self.now.parser.numbered)))
 
-pub after_quote-returns-in-Ok-Less : goal.after_quote-returns-in-Ok-Less
-after_quote-returns-in-Ok-Less t c = record {
-  goes = Turns.quoted_path_term _ _ _ _ _ _ _ _ _ c.path.ensures.goes;
-  less = λ e. omega (arith, c.path.ensures.less e);
-  takes = record { onward = c.path.ensures.takes.onward; capacity = c.path.ensures.takes.capacity; each = λ e. omega (arith, c.path.ensures.takes.each e) };
-}
+pub after_quote-returns-in-Ok-Less-clause-goes : goal.after_quote-returns-in-Ok-Less-clause-goes
+after_quote-returns-in-Ok-Less-clause-goes t c = Turns.quoted_path_term _ _ _ _ _ _ _ _ _ c.path.ensures.goes
 
 pub after_quote-returns-in-Ok-Node : goal.after_quote-returns-in-Ok-Node
 after_quote-returns-in-Ok-Node t c =
@@ -86,15 +66,11 @@ after_quote-returns-in-Ok-Node t c =
       takes = record { onward = Onward.on _ _ _ c.advance.ensures.onward c.after_quoted_node.ensures.takes.onward; capacity = c.after_quoted_node.ensures.takes.capacity; each = λ e. omega (arith, c.after_quoted_node.ensures.takes.each e) };
     }
 
-pub after_quote-returns-in_default : goal.after_quote-returns-in_default
-after_quote-returns-in_default t c =
+pub after_quote-returns-in_default-clause-goes : goal.after_quote-returns-in_default-clause-goes
+after_quote-returns-in_default-clause-goes t c =
     let not_less : c.args.self.now.parser.word ≡ Ok w.Less → ⊥ = λ q. grind arith in
     let not_node : (n : Node) → c.args.self.now.parser.word ≡ Ok (w.Node n) → ⊥ = λ n q. grind arith in
-    let not_unnumbered : c.args.self.now.parser.word ≡ Ok w.UnnumberedNode → ⊥ = λ q. grind arith in record {
-      goes = λ l h r f b d. Turns.by_number l _ _ _ _ _ c.misplaced.result (Runs.no_quoted l h r f b _ _ _ not_less not_node not_unnumbered) c.misplaced.ensures.number c.misplaced.ensures.place;
-      less = λ e. absurd (grind arith);
-      takes = record { onward = Onward.still _; capacity = refl; each = λ e. absurd (grind arith) };
-    }
+    let not_unnumbered : c.args.self.now.parser.word ≡ Ok w.UnnumberedNode → ⊥ = λ q. grind arith in λ l h r f b d. Turns.by_number l _ _ _ _ _ c.misplaced.result (Runs.no_quoted l h r f b _ _ _ not_less not_node not_unnumbered) c.misplaced.ensures.number c.misplaced.ensures.place
 
 pub after_quoted_node-named_path-requires : goal.after_quoted_node-named_path-requires
 after_quoted_node-named_path-requires t c =
@@ -112,14 +88,10 @@ after_quoted_node-returns-in-Ok-Colon t c =
       takes = record { onward = Onward.on _ _ _ c.advance.ensures.onward c.named_path.ensures.takes.onward; capacity = c.named_path.ensures.takes.capacity; each = λ e. omega (arith, c.named_path.ensures.takes.each e) };
     }
 
-pub after_quoted_node-returns-in_default : goal.after_quoted_node-returns-in_default
-after_quoted_node-returns-in_default t c =
+pub after_quoted_node-returns-in_default-clause-goes : goal.after_quoted_node-returns-in_default-clause-goes
+after_quoted_node-returns-in_default-clause-goes t c =
     let not_colon : c.args.self.now.parser.word ≡ Ok w.Colon → ⊥ = λ q. grind arith in
-    let not_quote : c.args.self.now.parser.word ≡ Ok w.Quote → ⊥ = λ q. grind arith in record {
-      goes = λ l h r f b d. Turns.by_number l _ _ _ _ _ c.misplaced.result (Runs.no_node_end l h r _ f b _ _ _ not_colon not_quote) c.misplaced.ensures.number c.misplaced.ensures.place;
-      less = λ e. absurd (grind arith);
-      takes = record { onward = Onward.still _; capacity = refl; each = λ e. absurd (grind arith) };
-    }
+    let not_quote : c.args.self.now.parser.word ≡ Ok w.Quote → ⊥ = λ q. grind arith in λ l h r f b d. Turns.by_number l _ _ _ _ _ c.misplaced.result (Runs.no_node_end l h r _ f b _ _ _ not_colon not_quote) c.misplaced.ensures.number c.misplaced.ensures.place
 
 pub after_quoted_node-returns-in-Ok-Quote : goal.after_quoted_node-returns-in-Ok-Quote
 after_quoted_node-returns-in-Ok-Quote t c =
@@ -131,12 +103,8 @@ after_quoted_node-returns-in-Ok-Quote t c =
       takes = record { onward = c.advance-in-Ok-Quote.ensures.onward; capacity = c.push_reserved.ensures.capacity; each = λ e. omega (arith, c.push_reserved.ensures.len) };
     }
 
-pub path-returns-then-left-eq0 : goal.path-returns-then-left-eq0
-path-returns-then-left-eq0 t c = record {
-  goes = λ l h r f b d. Turns.with_names _ (Runs.at_fifth l h r f b _ _ _ c.args.quoting c.args.node c.requires.starts (omega arith));
-  less = λ e. absurd (grind arith);
-  takes = record { onward = Onward.still _; capacity = refl; each = λ e. absurd (grind arith) };
-}
+pub path-returns-then-left-eq0-clause-goes : goal.path-returns-then-left-eq0-clause-goes
+path-returns-then-left-eq0-clause-goes t c = λ l h r f b d. Turns.with_names _ (Runs.at_fifth l h r f b _ _ _ c.args.quoting c.args.node c.requires.starts (omega arith))
 
 pub path-push_reserved-requires : goal.path-push_reserved-requires
 path-push_reserved-requires t c = omega (arith, Runs.one_word c.args.self.now.parser.place c.args.self.now.parser.word w.Less (later (names_of c.args.self.now.names.now) c.args.self.now.parser) (later (names_of c.args.self.now.names.now) c.args.self.now.parser) (Runs.only_less _ c.requires.starts) refl refl)
@@ -146,24 +114,16 @@ path-terms-requires t c =
     let z = Runs.one_word c.args.self.now.parser.place c.args.self.now.parser.word w.Less _ _ (Runs.only_less _ c.requires.starts) refl c.advance.ensures.size in
     (search rules, (omega (arith, c.push_reserved.ensures.len, c.push_reserved.ensures.capacity), omega arith))
 
-pub path-returns-in_err-terms : goal.path-returns-in_err-terms
-path-returns-in_err-terms t c =
+pub path-returns-in_err-terms-clause-goes : goal.path-returns-in_err-terms-clause-goes
+path-returns-in_err-terms-clause-goes t c =
     let p = err_from_is_err_and c.from_residual.result c.from_residual.ensures.1 in
-    record {
-      goes = rw (p.1, p.2) (λ l h r f b d. Turns.with_names _ (Runs.at_less l h r f b _ _ _ c.args.quoting c.args.node c.requires.starts (omega arith)) ∙ c.advance.ensures.moves l _ ∙ c.in_err-terms.ensures.goes l h r (within c.args.self.now.parser.place c.args.quoting c.args.node b f) done (omega arith));
-      less = rw p.1 (λ q. absurd (grind arith));
-      takes = record { onward = Onward.on _ _ _ c.advance.ensures.onward c.in_err-terms.ensures.takes.onward; capacity = c.in_err-terms.ensures.takes.capacity ∙ c.push_reserved.ensures.capacity; each = rw p.1 (λ q. absurd (grind arith)) };
-    }
+    rw (p.1, p.2) (λ l h r f b d. Turns.with_names _ (Runs.at_less l h r f b _ _ _ c.args.quoting c.args.node c.requires.starts (omega arith)) ∙ c.advance.ensures.moves l _ ∙ c.in_err-terms.ensures.goes l h r (within c.args.self.now.parser.place c.args.quoting c.args.node b f) done (omega arith))
 
-pub path-returns-in_default : goal.path-returns-in_default
-path-returns-in_default t c =
+pub path-returns-in_default-clause-goes : goal.path-returns-in_default-clause-goes
+path-returns-in_default-clause-goes t c =
     let told = c.in_ok-terms.ensures in
     let not : c.terms.new.self.parser.word ≡ Ok w.Greater → ⊥ = λ q. grind arith in
-    record {
-      goes = λ l h r f b d. Turns.path_inside c.args.left c.args.quoting c.args.node _ _ _ _ _ _ _ _ _ _ c.requires.starts (omega arith) c.advance.ensures.moves told.goes l h r f b d ∙ Turns.by_number l _ _ _ _ _ c.misplaced.result (Runs.no_close l h r _ c.args.quoting c.args.node b f _ _ _ _ (told.stops refl) not) c.misplaced.ensures.number c.misplaced.ensures.place;
-      less = λ e. absurd (grind arith);
-      takes = record { onward = Onward.on _ _ _ c.advance.ensures.onward told.takes.onward; capacity = told.takes.capacity ∙ c.push_reserved.ensures.capacity; each = λ e. absurd (grind arith) };
-    }
+    λ l h r f b d. Turns.path_inside c.args.left c.args.quoting c.args.node _ _ _ _ _ _ _ _ _ _ c.requires.starts (omega arith) c.advance.ensures.moves told.goes l h r f b d ∙ Turns.by_number l _ _ _ _ _ c.misplaced.result (Runs.no_close l h r _ c.args.quoting c.args.node b f _ _ _ _ (told.stops refl) not) c.misplaced.ensures.number c.misplaced.ensures.place
 
 pub path-push_reserved-requires-2 : goal.path-push_reserved-requires-2
 path-push_reserved-requires-2 t c =
@@ -197,12 +157,8 @@ path-returns-in-Quoted t c =
       takes = record { onward = Onward.on _ _ _ (Onward.on _ _ _ (Onward.on _ _ _ c.advance.ensures.onward told.takes.onward) c.advance-2.ensures.onward) c.end_quote.ensures.onward; capacity = c.push_reserved-2.ensures.capacity ∙ told.takes.capacity ∙ c.push_reserved.ensures.capacity; each = λ e. omega (arith, told.takes.each refl, c.end_quote.ensures.less e, c.push_reserved.ensures.len, c.push_reserved-2.ensures.len) };
     }
 
-pub term-returns-in-Ok-Less : goal.term-returns-in-Ok-Less
-term-returns-in-Ok-Less t c = record {
-  goes = Turns.plain_path_term _ _ _ _ _ _ _ _ _ c.requires.inside c.path.ensures.goes;
-  less = c.path.ensures.less;
-  takes = record { onward = c.path.ensures.takes.onward; capacity = c.path.ensures.takes.capacity; each = λ e. omega (arith, c.path.ensures.takes.each e) };
-}
+pub term-returns-in-Ok-Less-clause-goes : goal.term-returns-in-Ok-Less-clause-goes
+term-returns-in-Ok-Less-clause-goes t c = Turns.plain_path_term _ _ _ _ _ _ _ _ _ c.requires.inside c.path.ensures.goes
 
 pub terms-loop-self-init : goal.terms-loop-self-init
 terms-loop-self-init t c = (Turns.nothing _ _ _ _, Onward.still _, omega arith, omega (arith, c.requires.room), omega arith, refl)
@@ -211,17 +167,6 @@ pub terms-loop-self-preserved : goal.terms-loop-self-preserved
 terms-loop-self-preserved t c =
     let told = c.in_ok-term.ensures in
     (Turns.and_more _ _ _ _ _ _ _ _ _ _ _ c.loop-self.invariant.0 told.goes, Onward.on _ _ _ c.loop-self.invariant.1 told.takes.onward, omega (arith, told.less refl, c.loop-self.invariant.2), omega (arith, told.takes.each refl, told.takes.capacity, c.loop-self.invariant.3), omega (arith, told.takes.each refl, c.loop-self.invariant.4), told.takes.capacity ∙ c.loop-self.invariant.5)
-
-pub terms-returns-in_err-term : goal.terms-returns-in_err-term
-terms-returns-in_err-term t c =
-    let p = err_from_is_err_and c.from_residual.result c.from_residual.ensures.1 in
-    let x = c.loop-self.invariant.0 in
-    record {
-      goes = rw (p.1, p.2) (λ l h r f b d. x.comes l h r f b d ∙ c.in_err-term.ensures.goes l h r f (then b x.terms) d);
-      stops = rw p.1 (λ q. absurd (grind arith));
-      less = rw p.1 (λ q. absurd (grind arith));
-      takes = record { onward = Onward.on _ _ _ c.loop-self.invariant.1 c.in_err-term.ensures.takes.onward; capacity = c.in_err-term.ensures.takes.capacity ∙ c.loop-self.invariant.5; each = rw p.1 (λ q. absurd (grind arith)) };
-    }
 
 pub unopened-push_reserved-requires : goal.unopened-push_reserved-requires
 unopened-push_reserved-requires t c = omega (arith, Runs.fewer_start c.args.self.now.parser.place c.args.self.now.parser.word (later (names_of c.args.self.now.names.now) c.args.self.now.parser) c.requires.starts)
@@ -237,13 +182,9 @@ unopened-returns-in-Ok-Atom t c =
       takes = record { onward = c.advance.ensures.onward; capacity = c.push_reserved.ensures.capacity; each = λ e. omega (arith, c.push_reserved.ensures.len) };
     }
 
-pub unopened-returns-in-Ok-UnnumberedAtom : goal.unopened-returns-in-Ok-UnnumberedAtom
-unopened-returns-in-Ok-UnnumberedAtom t c =
-    let q : (c.args.self.now.parser.word ≡ Ok w.UnnumberedAtom) ⊎ (c.args.self.now.parser.word ≡ Ok w.UnnumberedNode) = search rules in record {
-      goes = λ l h r f b d. Turns.by_number l _ _ _ _ _ c.no_number.result (⊎_elim (λ q. Runs.no_atom l h r f b _ _ _ q (omega arith)) (λ q. Runs.no_node l h r f b _ _ _ q (omega arith)) q) (ap number c.no_number.ensures) (ap place c.no_number.ensures);
-      less = λ e. absurd (grind arith);
-      takes = record { onward = Onward.still _; capacity = refl; each = λ e. absurd (grind arith) };
-    }
+pub unopened-returns-in-Ok-UnnumberedAtom-clause-goes : goal.unopened-returns-in-Ok-UnnumberedAtom-clause-goes
+unopened-returns-in-Ok-UnnumberedAtom-clause-goes t c =
+    let q : (c.args.self.now.parser.word ≡ Ok w.UnnumberedAtom) ⊎ (c.args.self.now.parser.word ≡ Ok w.UnnumberedNode) = search rules in λ l h r f b d. Turns.by_number l _ _ _ _ _ c.no_number.result (⊎_elim (λ q. Runs.no_atom l h r f b _ _ _ q (omega arith)) (λ q. Runs.no_node l h r f b _ _ _ q (omega arith)) q) (ap number c.no_number.ensures) (ap place c.no_number.ensures)
 
 pub unopened-after_node-requires : goal.unopened-after_node-requires
 unopened-after_node-requires t c =

@@ -2,18 +2,13 @@ use Rattle.std.proofs.Common.{◌≡◌, Ok, ◌∙◌, arith, rules, refl}
 use Rattle.lookahead.specs.declared.word.Word.TheVariants as w
 use Rattle.loader.proofs.Runs
 use Rattle.loader.proofs.Runs.{no_end, at_end}
-use Rattle.loader.proofs.Onward
 use Rattle.loader.proofs.Turns.{with_names, by_number}
 use Rattle.loader.proofs.reader.Reader.end_quote.Goals as goal
 
-pub returns-in_default : goal.returns-in_default
-returns-in_default c =
+pub returns-in_default-clause-goes : goal.returns-in_default-clause-goes
+returns-in_default-clause-goes c =
     let not : c.args.self.now.parser.word ≡ Ok w.Quote → ⊥ = λ q. grind arith in
-    record {
-      goes = λ l h r n i f b d. by_number l _ _ _ _ _ c.misplaced.result (no_end l h r n i f b _ _ _ not) c.misplaced.ensures.number c.misplaced.ensures.place;
-      onward = Onward.still _;
-      less = λ e. absurd (grind arith);
-    }
+    λ l h r n i f b d. by_number l _ _ _ _ _ c.misplaced.result (no_end l h r n i f b _ _ _ not) c.misplaced.ensures.number c.misplaced.ensures.place
 
 pub returns : goal.returns
 returns c =

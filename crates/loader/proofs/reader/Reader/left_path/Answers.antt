@@ -23,14 +23,9 @@ loop-self-init c =
       refl,
     )
 
-pub returns-in-Ok-UnnumberedAtom : goal.returns-in-Ok-UnnumberedAtom
-returns-in-Ok-UnnumberedAtom c =
-    let q : c.loop-self.self.parser.word ≡ Ok w.UnnumberedAtom = search rules in record {
-      goes = λ l f. Turns.with_names _ (Lefts.at_less l f c.args.self.now.parser.place c.args.self.now.parser.word (later (names_of c.args.self.now.names.now) c.args.self.now.parser) c.requires.starts) ∙ c.advance.ensures.moves l (lefting f c.args.self.now.parser.place []) ∙ c.loop-self.invariant.0 l f c.args.self.now.parser.place ∙ Turns.by_number l _ _ _ _ _ c.no_number.result (Lefts.no_atom l f _ _ _ _ _ q) (ap number c.no_number.ensures) (ap place c.no_number.ensures);
-      onward = Onward.on _ _ _ c.advance.ensures.onward c.loop-self.invariant.2;
-      less = λ e. absurd (grind arith);
-      capacity = c.loop-self.invariant.5 ∙ c.clear.ensures.capacity;
-    }
+pub returns-in-Ok-UnnumberedAtom-clause-goes : goal.returns-in-Ok-UnnumberedAtom-clause-goes
+returns-in-Ok-UnnumberedAtom-clause-goes c =
+    let q : c.loop-self.self.parser.word ≡ Ok w.UnnumberedAtom = search rules in λ l f. Turns.with_names _ (Lefts.at_less l f c.args.self.now.parser.place c.args.self.now.parser.word (later (names_of c.args.self.now.names.now) c.args.self.now.parser) c.requires.starts) ∙ c.advance.ensures.moves l (lefting f c.args.self.now.parser.place []) ∙ c.loop-self.invariant.0 l f c.args.self.now.parser.place ∙ Turns.by_number l _ _ _ _ _ c.no_number.result (Lefts.no_atom l f _ _ _ _ _ q) (ap number c.no_number.ensures) (ap place c.no_number.ensures)
 
 pub push_reserved-requires : goal.push_reserved-requires
 push_reserved-requires c =
@@ -55,27 +50,17 @@ loop-self-preserved c =
       c.push_reserved.ensures.capacity ∙ c.loop-self.invariant.5,
     )
 
-pub returns-in_default-word : goal.returns-in_default-word
-returns-in_default-word c =
+pub returns-in_default-word-clause-goes : goal.returns-in_default-word-clause-goes
+returns-in_default-word-clause-goes c =
     let not_atom : (a : Atom) → c.loop-self.self.parser.word ≡ Ok (w.Atom a) → ⊥ = λ a q. grind arith in
     let no_atom : c.loop-self.self.parser.word ≡ Ok w.UnnumberedAtom → ⊥ = λ q. grind arith in
-    let not_greater : c.loop-self.self.parser.word ≡ Ok w.Greater → ⊥ = λ q. grind arith in record {
-      goes = λ l f. Turns.with_names _ (Lefts.at_less l f c.args.self.now.parser.place c.args.self.now.parser.word (later (names_of c.args.self.now.names.now) c.args.self.now.parser) c.requires.starts) ∙ c.advance.ensures.moves l (lefting f c.args.self.now.parser.place []) ∙ c.loop-self.invariant.0 l f c.args.self.now.parser.place ∙ Turns.by_number l _ _ _ _ _ c.misplaced.result (Lefts.no_greater l f _ _ _ _ _ not_atom no_atom not_greater) c.misplaced.ensures.number c.misplaced.ensures.place;
-      onward = Onward.on _ _ _ c.advance.ensures.onward c.loop-self.invariant.2;
-      less = λ e. absurd (grind arith);
-      capacity = c.loop-self.invariant.5 ∙ c.clear.ensures.capacity;
-    }
+    let not_greater : c.loop-self.self.parser.word ≡ Ok w.Greater → ⊥ = λ q. grind arith in λ l f. Turns.with_names _ (Lefts.at_less l f c.args.self.now.parser.place c.args.self.now.parser.word (later (names_of c.args.self.now.names.now) c.args.self.now.parser) c.requires.starts) ∙ c.advance.ensures.moves l (lefting f c.args.self.now.parser.place []) ∙ c.loop-self.invariant.0 l f c.args.self.now.parser.place ∙ Turns.by_number l _ _ _ _ _ c.misplaced.result (Lefts.no_greater l f _ _ _ _ _ not_atom no_atom not_greater) c.misplaced.ensures.number c.misplaced.ensures.place
 
-pub returns-in_default-word-2 : goal.returns-in_default-word-2
-returns-in_default-word-2 c =
+pub returns-in_default-word-2-clause-goes : goal.returns-in_default-word-2-clause-goes
+returns-in_default-word-2-clause-goes c =
     let g : c.loop-self.self.parser.word ≡ Ok w.Greater = search rules in
     let not : c.advance-in-Ok-Greater.new.self.parser.word ≡ Ok w.Equals → ⊥ = λ q. grind arith in
-    record {
-      goes = λ l f. Turns.with_names _ (Lefts.at_less l f c.args.self.now.parser.place c.args.self.now.parser.word (later (names_of c.args.self.now.names.now) c.args.self.now.parser) c.requires.starts) ∙ c.advance.ensures.moves l (lefting f c.args.self.now.parser.place []) ∙ c.loop-self.invariant.0 l f c.args.self.now.parser.place ∙ Turns.with_names _ (Lefts.at_greater l f _ _ _ _ _ g) ∙ c.advance-in-Ok-Greater.ensures.moves l (lefted (record { front = f; place = c.args.self.now.parser.place; left = vec_items c.loop-self.left })) ∙ Turns.by_number l _ _ _ _ _ c.misplaced-in_default-word-2.result (Lefts.no_equals l _ _ _ _ not) c.misplaced-in_default-word-2.ensures.number c.misplaced-in_default-word-2.ensures.place;
-      onward = Onward.on _ _ _ (Onward.on _ _ _ c.advance.ensures.onward c.loop-self.invariant.2) c.advance-in-Ok-Greater.ensures.onward;
-      less = λ e. absurd (grind arith);
-      capacity = c.loop-self.invariant.5 ∙ c.clear.ensures.capacity;
-    }
+    λ l f. Turns.with_names _ (Lefts.at_less l f c.args.self.now.parser.place c.args.self.now.parser.word (later (names_of c.args.self.now.names.now) c.args.self.now.parser) c.requires.starts) ∙ c.advance.ensures.moves l (lefting f c.args.self.now.parser.place []) ∙ c.loop-self.invariant.0 l f c.args.self.now.parser.place ∙ Turns.with_names _ (Lefts.at_greater l f _ _ _ _ _ g) ∙ c.advance-in-Ok-Greater.ensures.moves l (lefted (record { front = f; place = c.args.self.now.parser.place; left = vec_items c.loop-self.left })) ∙ Turns.by_number l _ _ _ _ _ c.misplaced-in_default-word-2.result (Lefts.no_equals l _ _ _ _ not) c.misplaced-in_default-word-2.ensures.number c.misplaced-in_default-word-2.ensures.place
 
 pub returns : goal.returns
 returns c =

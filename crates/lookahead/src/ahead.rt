@@ -42,6 +42,7 @@ fn numbered(names: &mut Names, word: words::Word<'_>) -> Word
     }
 }
 
+// Kept: that names only grow is said of two states of the names, which no type holds.
 impl<'a> Parser<'a> {
     /// A parser at the text's first word.
     pub fn new(text: &'a [u8], names: &mut Names) -> Parser<'a>

@@ -22,6 +22,8 @@ impl Names {
         Ok(Names { nodes, atoms })
     }
 
+    // Kept: a node and an atom are named and numbered by one table each, and a line hands on to it; a type parameter would want a trait with laws.
+
     /// The node of a name, which is numbered where it is new.
     pub fn node(&mut self, name: &[u8]) -> Result<Node, NoNumber>
         ensures gives { result ≡ node_or_none (nodes_in self.old) name.now }

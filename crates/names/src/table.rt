@@ -9,6 +9,7 @@ use crate::part::Part;
 use chains::Chains;
 
 /// Entry k of the chains is name k; no name stands twice.
+// Kept: all memory is got at creation, so the bytes of all names stand in one list, of which each name has a part.
 #[derive(Drop)]
 pub struct NameTable {
     pub(crate) limit: usize,

@@ -21,6 +21,7 @@ struct Place {
 }
 
 // Kept: all memory is got at creation, so the places stand in one list and are named by their numbers.
+// Kept without a model: clauses speak of edges, marks and room apart, and most of one of them alone.
 #[derive(Drop)]
 pub struct Trie {
     room: usize,

@@ -102,6 +102,7 @@ const FAULTS: &[(&[u8], &[u8])] = &[
     (b"'aaaaaaaaaabbbbbbbbbbccccccccccddd'", b"0 fault 3"),
 ];
 
+// Kept: each table is a test, whose name says what failed.
 #[test]
 fn marks(rt: HostRuntime) -> Result<(), Fail> {
     assert_eq!(rt; first_other(rt.alloc(), MARKS)?, None);

@@ -57,6 +57,8 @@ fn run_len<F: Fn(u8) -> bool>(bytes: &[u8], passes: F) -> usize
     bytes.iter().take_while(|b| passes(**b)).count()
 }
 
+// Kept here and below: each reader of a word says that the word ends within the text, since a type that holds it would hold the text once more.
+
 // An unquoted name, and the place behind it.
 fn bare_name<'a>(text: &'a [u8], place: usize) -> Result<(&'a [u8], usize), WordRefusal>
     requires { place ≤ length text.now }

@@ -11,6 +11,7 @@ ghost use Rattle.names.specs.Hash.{mix, bucket_of_lem};
 use chains::Chains;
 use part::Part;
 use std::alloc::{AllocError, Global};
+use terms::limits::NAME_BYTES;
 
 pub mod numbering;
 mod part;
@@ -20,9 +21,6 @@ mod tables;
 pub use part::NoNumber;
 pub use table::NameTable;
 pub use tables::Names;
-
-// Kept here and in words: neither crate stands on the other, and each has the limit in its own definitions.
-const NAME_BYTES: usize = 32;
 
 const BUCKETS: usize = 4096;
 

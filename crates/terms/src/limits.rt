@@ -6,6 +6,8 @@ pub const NODES: u16 = 1024;
 
 pub const ATOMS: u16 = 4096;
 
+pub const NAME_BYTES: usize = 32;
+
 pub const PATH_ATOMS: usize = 32;
 
 pub const RIGHT_ITEMS: usize = 64;
@@ -18,7 +20,7 @@ pub const VALUE_ATOMS: usize = 256;
 
 pub const STEPS: u32 = 1_000_000;
 
-/// All of them: the limits of the code are those of the definitions.
+/// All but the length of names: the limits of the code are those of the definitions.
 pub fn limits() -> [usize; 8]
     ensures { result ≡ node_limit ∷ atom_limit ∷ path_limit ∷ item_limit ∷ nesting_limit ∷ open_limit ∷ value_limit ∷ step_limit ∷ [] }
 {

@@ -6,9 +6,7 @@ ghost use Rattle.words.specs.Words.{Token, blank_byte, of_name, gap, bare, quote
 use crate::faults::WordRefusal;
 use crate::word::Word;
 use classes::{ByteClass, Mark, class_of};
-
-// Kept here and in names: neither crate stands on the other, and each has the limit in its own definitions.
-const NAME_BYTES: usize = 32;
+use terms::limits::NAME_BYTES;
 
 fn is_blank(b: u8) -> bool
     ensures { result ≡ blank_byte b }

@@ -1,6 +1,6 @@
 // Refusals 4 to 7, which a sentence alone decides.
 ghost use Rattle.std.specs.Prelude.{◌≡◌, Some};
-ghost use Rattle.terms.specs.Maps.{every, atom_in_range, item_in_range};
+ghost use Rattle.terms.specs.Maps.{every, item_in_range};
 ghost use Rattle.stores.specs.Sentences.{sentence};
 ghost use Rattle.stores.specs.Refusals.{open_after, closes, unfit, answer};
 
@@ -16,12 +16,6 @@ fn is_item_in_range(item: Item) -> bool
         Item::Node(_, node) | Item::Open(_, Some(node)) => node.is_in_range(),
         Item::Open(_, None) | Item::Close => true,
     }
-}
-
-fn are_atoms_in_range(left: &[Atom]) -> bool
-    ensures { result ≡ every atom_in_range left.now }
-{
-    left.iter().all(|atom| atom.is_in_range())
 }
 
 fn are_items_in_range(right: &[Item]) -> bool
@@ -59,7 +53,7 @@ fn all_close(most: usize, right: &[Item]) -> bool
 pub fn check_fitness(node: Node, left: &[Atom], right: &[Item]) -> Result<(), Refusal>
     ensures { result ≡ answer (unfit (sentence node left.now right.now)) }
 {
-    let in_range = node.is_in_range() && are_atoms_in_range(left) && are_items_in_range(right);
+    let in_range = node.is_in_range() && Atom::are_in_range(left) && are_items_in_range(right);
     if !(in_range && all_close(right.len(), right)) {
         Err(Refusal::Malformed)
     } else if !all_close(NESTING, right) {

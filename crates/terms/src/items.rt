@@ -1,6 +1,6 @@
 // Nodes, atoms, and the items that a right side is kept as.
 ghost use Rattle.std.specs.Prelude.{◌≡◌};
-ghost use Rattle.terms.specs.Maps.{node_in_range, atom_in_range};
+ghost use Rattle.terms.specs.Maps.{every, node_in_range, atom_in_range};
 
 use crate::limits::{ATOMS, NODES};
 
@@ -25,6 +25,13 @@ impl Atom {
         ensures { result ≡ atom_in_range self }
     {
         self.0 < ATOMS
+    }
+
+    /// Whether all atoms of a list may have their numbers.
+    pub fn are_in_range(atoms: &[Atom]) -> bool
+        ensures { result ≡ every atom_in_range atoms.now }
+    {
+        atoms.iter().all(|atom| atom.is_in_range())
     }
 }
 

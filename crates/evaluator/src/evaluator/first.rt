@@ -1,25 +1,16 @@
 // The first question that a node and a path make.
 ghost use Rattle.std.specs.Prelude.{◌≡◌};
-ghost use Rattle.terms.specs.Maps.{every, atom_in_range};
 ghost use Rattle.evaluator.specs.Holds.{First};
 
 use path::Path;
 use sentences::Question;
 use terms::{Atom, Node};
 
-/// Whether the numbers of all atoms are in range.
-// Kept: stores has the like for its own sentences, in private, and one line is plainer than an export.
-fn in_range(path: &[Atom]) -> bool
-    ensures { result ≡ every atom_in_range path.now }
-{
-    path.iter().all(|atom| atom.is_in_range())
-}
-
 /// A question that is its own context, if its numbers are in range and it has no more than 32 atoms.
 pub fn first_question(node: Node, path: &[Atom]) -> Option<Question>
     ensures { First result node path.now }
 {
-    if !node.is_in_range() || !in_range(path) {
+    if !node.is_in_range() || !Atom::are_in_range(path) {
         return None;
     }
     let mut kept = Path::new();

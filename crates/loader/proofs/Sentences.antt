@@ -1,14 +1,13 @@
 -- Equations, sentences and blocks.
-use Rattle.std.proofs.Common.{◌≡◌, ℕ, suc, ◌+◌, ◌-◌, ◌≤◌, Bool, true, false, ltb, List, [], ◌∷◌, ◌++◌, length, take, drop, Some, None, Ok, Err, Option, Result, sym, refl, ap, ◌∙◌, subst, append-nil, arith, length-append}
+use Rattle.std.proofs.Common.{◌≡◌, ℕ, suc, ◌+◌, ◌-◌, Bool, true, false, ltb, List, [], ◌∷◌, ◌++◌, length, take, drop, Some, None, Ok, Err, Option, Result, sym, refl, ap, ◌∙◌, subst, append-nil, arith, length-append}
 use Rattle.std.proofs.lemmas.Bool.{and_parts, and_from}
 use Rattle.terms.specs.declared.items.Node.{Node}
 use Rattle.terms.specs.declared.items.Atom.{Atom}
 use Rattle.terms.specs.declared.items.Item.{Item}
 use Rattle.terms.specs.declared.items.Item.TheVariants as item
 use Rattle.terms.specs.declared.items.Quoting.TheVariants.{Plain as plain}
-use Rattle.terms.specs.Limits.{nesting_limit}
-use Rattle.terms.specs.Terms.{Terms, done, path, flat, nesting}
-use Rattle.terms.specs.Maps.{every, node_in_range, atom_in_range, item_in_range}
+use Rattle.terms.specs.Terms.{Terms, done, path, flat}
+use Rattle.terms.specs.Maps.{every, atom_in_range, item_in_range}
 use Rattle.stores.specs.declared.refusals.Refusal.{Refusal}
 use Rattle.stores.specs.Sentences.{Sentence, sentence}
 use Rattle.stores.specs.Refusals.{Limits}
@@ -31,7 +30,7 @@ use Rattle.loader.specs.declared.ends.NextEquation.{NextEquation}
 use Rattle.faults.specs.Grammar.{number, place}
 use Rattle.lookahead.specs.Ahead.{cons, gives, Moves, fault_number}
 use Rattle.loader.specs.Readings.{starts, ThroughSide, ThroughNext, GoesSide, Stops}
-use Rattle.loader.specs.Equations.{ThroughLeft, Spelt, collected}
+use Rattle.loader.specs.Equations.{collected}
 use Rattle.loader.specs.Blocks.{IsFront, head, state_at, at_side, Reaches, GoesOn, ThroughBlock}
 use Rattle.loader.proofs.Turns.{with_names, by_number}
 use Rattle.loader.proofs.Atoms.{atoms_in_items}
@@ -39,9 +38,6 @@ use Rattle.loader.proofs.Marks
 
 -- ---- what is due in a block
 module _ (l : Limits) (n : Node) (kept : List Sentence) where
-  pub left_read : (s : ℕ) (S S' : Stream) (F F' : Names) (left : List Atom) → ThroughLeft s S F S' F' left → Reaches l n S F body kept (Some (RightSide s)) S' F' left kept
-  left_read s S S' F F' left y = record { in_range = y.in_range; comes = λ f i. record { front = f; is = i; comes = y.comes l f } }
-
   pub block_ends : (s : ℕ) (k : Result Word WordRefusal) (R S' : Stream) (F F' : Names) (left : List Atom) → k ≡ Ok w.Stop → every atom_in_range left ≡ true → Moves R F S' F' → Reaches l n (cons s k R) F body kept None S' F' left kept
   block_ends s k R S' F F' left e a m = record {
     in_range = a;
@@ -59,9 +55,6 @@ same_sentence : (n m : Node) (left : List Atom) (out : List Item) (t : Terms) �
 same_sentence n m left out t p q = ap (λ (k : Node). sentence k left (flat t)) p ∙ ap (λ (o : List Item). sentence m left o) (sym q)
 
 module _ (n : Node) (left : List Atom) (t : Terms) (out : List Item) (is : out ≡ flat t) where
-  pub spelt : node_in_range n ≡ true → every atom_in_range left ≡ true → every item_in_range (flat t) ≡ true → nesting t ≤ nesting_limit → Spelt (sentence n left out)
-  spelt a b c d = record { named = a; left_in_range = b; terms = t; right = is; right_in_range = c; nests = d }
-
   -- the sentences with one more
   one_more : (kept kept' : List Sentence) (p : ℕ) (r : Bool) (f : Front) → IsFront n kept f → kept' ≡ kept ++ sentence n left out ∷ [] → IsFront n kept' (with_equation (head p left f) r t)
   one_more kept kept' p r f i k = record {
@@ -213,9 +206,6 @@ module _ (l : Limits) (left : List Atom) (due : Due) (p : ℕ) (is : due ≡ Rig
 
   pub due_bare : (k ≡ Ok w.Open → ⊥) → (f : Front) → gives l (cons s k R) F (state_at (Some due) left f) ≡ gives l (cons s k R) F (at_side false p left f)
   due_bare o f = ap (λ (d : Due). gives l (cons s k R) F (state_at (Some d) left f)) is ∙ with_names F (Marks.no_open l (head p left f) s k R o)
-
-pub nothing_yet : (l : Limits) (n : Node) (S : Stream) (F : Names) (kept : List Sentence) (left : List Atom) → left ≡ [] → Reaches l n S F body kept (Some Equation) S F left kept
-nothing_yet l n S F kept left e = record { in_range = ap (every atom_in_range) e; comes = λ f i. record { front = f; is = i; comes = refl } }
 
 module _ (l : Limits) (n : Node) (σ : Front → State) (S S₁ : Stream) (F F₁ : Names) (kept kept₁ : List Sentence) (left₁ : List Atom) (next : Option Due) (due : Due) (e : next ≡ Some due) (x : Reaches l n S F σ kept next S₁ F₁ left₁ kept₁) where
   here : Reaches l n S F σ kept (Some due) S₁ F₁ left₁ kept₁

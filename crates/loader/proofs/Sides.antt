@@ -1,5 +1,5 @@
 -- Right sides.
-use Rattle.std.proofs.Common.{◌≡◌, ℕ, Bool, true, false, List, ◌++◌, length, None, sym, refl, ap, ◌∙◌, append_assoc, append-nil, arith, Ok, Err, Result}
+use Rattle.std.proofs.Common.{◌≡◌, ℕ, Bool, true, false, List, ◌++◌, None, sym, refl, ap, ◌∙◌, append_assoc, arith, Ok, Err, Result}
 use Rattle.terms.specs.declared.items.Item.{Item}
 use Rattle.terms.specs.declared.items.Quoting.TheVariants.{Plain as plain}
 use Rattle.terms.specs.Terms.{Terms, flat, path, done}
@@ -11,11 +11,8 @@ use Rattle.words.specs.declared.faults.WordRefusal.{WordRefusal}
 use Rattle.lookahead.specs.declared.word.Word.{Word}
 use Rattle.lookahead.specs.declared.word.Word.TheVariants as w
 use Rattle.lookahead.specs.Ahead.{cons}
-use Rattle.loader.specs.Readings.{is_next, Through, ThroughPath, ThroughSide, ThroughNext}
+use Rattle.loader.specs.Readings.{is_next, Through, ThroughPath, ThroughSide}
 use Rattle.loader.proofs.Turns.{flat_then, range_then, nesting_then, with_names}
-
-pub no_terms : (r : Bool) (S : Stream) (F : Names) (out : List Item) → ThroughSide r S F out S F out
-no_terms r S F out = record { terms = done; items = sym (append-nil out); in_range = refl; nests = omega arith; comes = λ l h. refl }
 
 pub side_more : (r : Bool) (S S₁ S₂ : Stream) (F F₁ F₂ : Names) (out out₁ out₂ : List Item) → ThroughSide r S F out S₁ F₁ out₁ → Through 4 ready S₁ F₁ out₁ S₂ F₂ out₂ → ThroughSide r S F out S₂ F₂ out₂
 side_more r S S₁ S₂ F F₁ F₂ out out₁ out₂ x y = record {
@@ -23,18 +20,6 @@ side_more r S S₁ S₂ F F₁ F₂ out out₁ out₂ x y = record {
   in_range = range_then x.terms y.terms x.in_range y.in_range;
   nests = nesting_then x.terms y.terms 4 x.nests y.nests;
   items = y.items ∙ ap (λ (m : List Item). m ++ flat y.terms) x.items ∙ append_assoc out (flat x.terms) (flat y.terms) ∙ ap (λ (m : List Item). out ++ m) (sym (flat_then x.terms y.terms));
-  comes = λ l h. x.comes l h ∙ y.comes l h r outside x.terms refl;
-}
-
-pub side_next : (r : Bool) (S S₁ S₂ : Stream) (F F₁ F₂ : Names) (out out₁ out₂ : List Item) (m p : ℕ) → m ≡ length out₁ → ThroughSide r S F out S₁ F₁ out₁ → ThroughPath 4 plain None p S₁ F₁ out₁ S₂ F₂ out₂ → ThroughNext r S F out m p S₂ F₂ out₂
-side_next r S S₁ S₂ F F₁ F₂ out out₁ out₂ m p e x y = record {
-  terms = x.terms;
-  in_range = x.in_range;
-  nests = x.nests;
-  inside_in_range = y.in_range;
-  inside = y.inside;
-  items = y.items ∙ ap (λ (n : List Item). n ++ flat (path plain None y.inside done)) x.items;
-  mark = e ∙ ap length x.items;
   comes = λ l h. x.comes l h ∙ y.comes l h r outside x.terms refl;
 }
 

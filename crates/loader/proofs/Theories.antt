@@ -1,7 +1,5 @@
 -- Whole texts.
-use Rattle.std.proofs.Common.{◌≡◌, ℕ, ◌<◌, ◌≤◌, Bool, true, false, ltb, List, [], length, take, is_ok, Ok, Err, sym, refl, ap, ◌∙◌, arith, Result}
-use lib.Seq.{take-length}
-use Rattle.std.proofs.lemmas.List.{take-append-le}
+use Rattle.std.proofs.Common.{◌≡◌, ℕ, ◌<◌, ◌≤◌, Bool, true, false, ltb, List, [], length, is_ok, Ok, Err, sym, refl, ap, ◌∙◌, arith, Result}
 use Rattle.std.proofs.lemmas.Bool.{cond-true, cond-false, ltb-true, ltb-false, lt-ltb, le-ltb}
 use Rattle.terms.specs.declared.items.Node.{Node}
 use Rattle.stores.specs.Sentences.{Sentence}
@@ -24,7 +22,7 @@ use Rattle.faults.specs.declared.kinds.GrammarFault.{GrammarFault}
 use Rattle.faults.specs.declared.kinds.LoadFault.{LoadFault}
 use Rattle.lookahead.specs.declared.parser.Parser.{Parser}
 use Rattle.lookahead.specs.Ended.{none, nothing_behind}
-use Rattle.lookahead.specs.Ahead.{Longer, Grown, cons, size, final, gives, behind_ahead, fault_number}
+use Rattle.lookahead.specs.Ahead.{Grown, cons, size, final, gives, behind_ahead, fault_number}
 use Rattle.faults.specs.Grammar as rest
 use Rattle.loader.specs.Blocks.{ThroughBlock}
 use Rattle.faults.specs.Loads.{number, place}
@@ -38,16 +36,6 @@ few_words ns text = let z = size_words ns (words_of text) in let k = (words_are_
 
 -- ---- block after block
 module _ (l : Limits) (S : Stream) (F : Names) where
-  pub no_blocks : (kept : List Sentence) → kept ≡ [] → ThroughBlock l S F [] S F kept
-  no_blocks kept e = record { blocks = []; says = sym e; comes = refl }
-
-  module _ (S₁ : Stream) (F₁ : Names) (kept₁ : List Sentence) (x : ThroughBlock l S F [] S₁ F₁ kept₁) where
-    pub block_more : (S₂ : Stream) (F₂ : Names) (kept₂ : List Sentence) → ((bs : List Block) → sentences bs ≡ kept₁ → ThroughBlock l S₁ F₁ bs S₂ F₂ kept₂) → ThroughBlock l S F [] S₂ F₂ kept₂
-    block_more S₂ F₂ kept₂ y = let z = y x.blocks x.says in record { blocks = z.blocks; says = z.says; comes = x.comes ∙ z.comes }
-
-    pub block_bad : (e : GrammarFault) → ((bs : List Block) → sentences bs ≡ kept₁ → gives l S₁ F₁ (between bs) ≡ rejected (rest.number e) (rest.place e)) → gives l S F (between []) ≡ rejected (rest.number e) (rest.place e)
-    block_bad e y = x.comes ∙ y x.blocks x.says
-
   module _ (s : ℕ) (k : Result Word WordRefusal) (R : Stream) (F₁ : Names) (kept₁ : List Sentence) (x : ThroughBlock l S F [] (cons s k R) F₁ kept₁) where
     pub text_ends : k ≡ Ok w.End → (ns : Names) → F₁ ≡ ns → gives l S F (between []) ≡ texts.kept kept₁ ns
     text_ends e ns n =
@@ -80,16 +68,6 @@ unfolding load_text
 not_too_long l ns text h = cond-false _ _ _ (le-ltb text_limit (length text) h)
 
 -- what was there before is the front of what has grown
-restored : (old new : List (List ℕ)) (n : ℕ) → n ≡ length old → Longer old new → take n new ≡ old
-restored old new n e (more, q) =
-    ap (λ (k : ℕ). take k new) e ∙ ap (take (length old)) q ∙ take-append-le (length old) old more (omega arith) ∙ take-length old
-
-pub names_restored : (ns grown ns' : Names) (n a : ℕ) → n ≡ length ns.nodes → a ≡ length ns.atoms → Grown ns grown → ns'.nodes ≡ take n grown.nodes → ns'.atoms ≡ take a grown.atoms → ns' ≡ ns
-names_restored ns grown ns' n a p q g x y =
-    let u : ns'.nodes ≡ ns.nodes = x ∙ restored ns.nodes grown.nodes n p g.0 in
-    let v : ns'.atoms ≡ ns.atoms = y ∙ restored ns.atoms grown.atoms a q g.1 in
-    ap (λ (k : List (List ℕ)). record { nodes = k; atoms = ns'.atoms }) u ∙ ap (λ (k : List (List ℕ)). record { nodes = ns.nodes; atoms = k }) v
-
 -- ---- what that says of theories
 first : FourIsFirst
 first l S p f e = misplaced S p f (four l S p (between []) e)

@@ -7,6 +7,8 @@ ghost use Rattle.lines.specs.Names.{name_or_none, named, all_named};
 use names::Names;
 use terms::{Atom, Node};
 
+// Kept: names and atoms stay two parameters, since names are lent to a line and atoms are parts of it.
+
 /// The name of an atom, or no bytes.
 pub(crate) fn atom_name(names: &Names, atom: Atom) -> &[u8]
     ensures { result.now ≡ name_or_none (atoms_in names.now) atom.0 }

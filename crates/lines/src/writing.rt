@@ -1,5 +1,5 @@
 // Lines written into the rest of a page.
-// Kept: a page and how far it is filled are passed apart, as the device has them.
+// Kept: a page and how far it is filled are passed apart, as the device has them; so are number and place, which faults of any layer have.
 ghost use Rattle.std.specs.Prelude.{◌≡◌};
 ghost use Rattle.lines.specs.Bytes.{line, refusal_bytes, title_bytes};
 ghost use Rattle.lines.specs.Lengths.{LineWithinLimit};

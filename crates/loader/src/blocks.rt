@@ -21,6 +21,7 @@ use std::mem::swap;
 use stores::Keeper;
 use terms::Node;
 
+// Kept: keeper and node are the caller's, and what is read of a text is said of two states of a reader, which no type holds.
 impl Loader {
     // The left path of an equation; or the full stop that ends the block.
     fn equation(&mut self, reader: &mut Reader<'_, '_>) -> Result<Option<Due>, GrammarFault>

@@ -4,6 +4,7 @@ ghost use Rattle.std.specs.Prelude.{◌≤◌, vec_capacity};
 use terms::{Atom, Item};
 
 /// Room for a left path, the next one and a right side, each of all words that a text can have.
+// Kept: all memory is got at creation, so the three lists stand here and not where they are filled.
 #[derive(Drop)]
 pub struct Loader {
     pub(crate) left: Vec<Atom>,

@@ -16,6 +16,7 @@ use names::Names;
 use std::alloc::{AllocError, Global};
 use stores::Keeper;
 
+// Kept: a text, names and a keeper stay three parameters, since callers have them apart.
 impl Loader {
     /// A loader with all the memory that it will want.
     pub fn new(heap: Global) -> Result<Loader, AllocError>

@@ -39,12 +39,15 @@ pub(crate) fn no_number(place: usize) -> GrammarFault
     GrammarFault::from(NameFault { place })
 }
 
+// Kept: that a right side stands in ( ) is a fact of two values, and the definitions have it as one.
 fn begins_next(round: bool, word: Result<Word, WordRefusal>) -> bool
     ensures { result ≡ is_next round word }
 {
     !round && matches!(word, Ok(Word::Equals))
 }
 
+// Kept: the items of one right side are filled by one reader after the other, which says how far; nesting left and room change from call to call, so that clauses
+// say them and no type.
 impl Reader<'_, '_> {
     // A path from its < on, the node and the quote mark before it being read.
     #[cycle(term_readers)]

@@ -1,11 +1,8 @@
 use Rattle.std.proofs.Common.{◌≡◌, Err, ◌∙◌, rules}
 use Rattle.filling.specs.Fills.{sentences_of}
 use Rattle.filling.proofs.Accepts.{outcome}
-use Rattle.filling.proofs.Fills.{fill_none, fill_refused, fill_more, fill_all}
+use Rattle.filling.proofs.Fills.{fill_refused, fill_more, fill_all}
 use Rattle.filling.proofs.fill.Goals as goal
-
-pub loop-s-init : goal.loop-s-init
-loop-s-init g c = fill_none g.K.Keeper.limits c.args.sentences.now _ c.clear.ensures
 
 pub returns-in_err-add : goal.returns-in_err-add
 returns-in_err-add g c =

@@ -1,12 +1,9 @@
-use Rattle.std.proofs.Common.{◌≡◌, None, rules, sym, refl, ◌∙◌, arith}
+use Rattle.std.proofs.Common.{◌≡◌, None, rules, sym, ◌∙◌, arith}
 use Rattle.trie.specs.Held.{edges_in, marks_in}
 use Rattle.trie.proofs.Steps.{walk_more}
 use Rattle.tree.specs.Held.{kept_in}
 use Rattle.tree.proofs.Steps.{deepest_more, deepest_all, deepest_here}
 use Rattle.tree.proofs.keep.PrefixTreeStore.find.Goals as goal
-
-pub loop-i-init : goal.loop-i-init
-loop-i-init c = (refl, c.better-best.ensures)
 
 pub loop-i-preserved : goal.loop-i-preserved
 loop-i-preserved c =

@@ -11,7 +11,6 @@ use std::alloc::{AllocError, Global};
 use terms::limits::{ATOMS, NODES};
 use terms::{Atom, Node};
 
-// Kept beside one another: each method hands on to one table in a line or two, and a type parameter would need a trait with laws.
 impl Names {
     /// No name, with memory for all that there may be.
     pub fn new(heap: Global) -> Result<Names, AllocError>

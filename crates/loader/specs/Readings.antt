@@ -38,57 +38,6 @@ is_less_lem (Ok w.Stray) = false
 is_less_lem (Ok w.End) = false
 is_less_lem (Err r) = false
 
-abbrev pub is_colon_lem : Result Word WordRefusal → Bool
-is_colon_lem (Ok (w.Atom a)) = false
-is_colon_lem (Ok w.UnnumberedAtom) = false
-is_colon_lem (Ok (w.Node n)) = false
-is_colon_lem (Ok w.UnnumberedNode) = false
-is_colon_lem (Ok w.Less) = false
-is_colon_lem (Ok w.Greater) = false
-is_colon_lem (Ok w.Quote) = false
-is_colon_lem (Ok w.Colon) = true
-is_colon_lem (Ok w.Equals) = false
-is_colon_lem (Ok w.Stop) = false
-is_colon_lem (Ok w.Open) = false
-is_colon_lem (Ok w.Close) = false
-is_colon_lem (Ok w.Stray) = false
-is_colon_lem (Ok w.End) = false
-is_colon_lem (Err r) = false
-
-abbrev pub is_quote_lem : Result Word WordRefusal → Bool
-is_quote_lem (Ok (w.Atom a)) = false
-is_quote_lem (Ok w.UnnumberedAtom) = false
-is_quote_lem (Ok (w.Node n)) = false
-is_quote_lem (Ok w.UnnumberedNode) = false
-is_quote_lem (Ok w.Less) = false
-is_quote_lem (Ok w.Greater) = false
-is_quote_lem (Ok w.Quote) = true
-is_quote_lem (Ok w.Colon) = false
-is_quote_lem (Ok w.Equals) = false
-is_quote_lem (Ok w.Stop) = false
-is_quote_lem (Ok w.Open) = false
-is_quote_lem (Ok w.Close) = false
-is_quote_lem (Ok w.Stray) = false
-is_quote_lem (Ok w.End) = false
-is_quote_lem (Err r) = false
-
-abbrev pub is_greater : Result Word WordRefusal → Bool
-is_greater (Ok (w.Atom a)) = false
-is_greater (Ok w.UnnumberedAtom) = false
-is_greater (Ok (w.Node n)) = false
-is_greater (Ok w.UnnumberedNode) = false
-is_greater (Ok w.Less) = false
-is_greater (Ok w.Greater) = true
-is_greater (Ok w.Quote) = false
-is_greater (Ok w.Colon) = false
-is_greater (Ok w.Equals) = false
-is_greater (Ok w.Stop) = false
-is_greater (Ok w.Open) = false
-is_greater (Ok w.Close) = false
-is_greater (Ok w.Stray) = false
-is_greater (Ok w.End) = false
-is_greater (Err r) = false
-
 abbrev pub is_equals_lem : Result Word WordRefusal → Bool
 is_equals_lem (Ok (w.Atom a)) = false
 is_equals_lem (Ok w.UnnumberedAtom) = false

@@ -4,6 +4,7 @@ ghost use Rattle.chains.specs.Last.{last_by, earlier};
 ghost use Rattle.chains.specs.Entries.{with_buckets};
 ghost use Rattle.chains.specs.Held.{buckets_in, width_in, room_in};
 ghost use Rattle.chains.specs.Found.{IsLastPassing, AllFailFrom};
+ghost use Rattle.chains.specs.Linked.{Small};
 ghost use Rattle.chains.specs.declared.PushError.{PushError};
 
 use super::{Chains, Link, PushError};
@@ -22,7 +23,8 @@ impl Chains {
     /// The last entry of a bucket.
     #[tactic(auto, using(crate::proofs::Lasts::none_wide))]
     pub fn last(&self, bucket: usize) -> Option<usize>
-        ensures { result ≡ last_by (nat_eq bucket) (buckets_in self.now) }
+        ensures value { result ≡ last_by (nat_eq bucket) (buckets_in self.now) }
+        ensures small { Small (width_in self.now) (buckets_in self.now) }
     {
         self.heads.get(bucket).copied().flatten()
     }

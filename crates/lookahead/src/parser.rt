@@ -6,9 +6,8 @@ ghost use Rattle.lookahead.specs.Ended.{nothing_behind, number_in_range};
 use crate::word::Word;
 use words::{WordReader, WordRefusal};
 
-// Kept without Debug and PartialEq: nobody prints or compares a text that is being read.
 /// Behind the text's end there are no words. `word` is the word ahead, or why there is none.
-#[derive(Clone, Copy)]
+#[derive(Clone, Copy, Debug, PartialEq, Eq)]
 pub struct Parser<'a> {
     pub(crate) reader: WordReader<'a>,
     pub place: usize,

@@ -6,8 +6,7 @@ use crate::faults::WordFault;
 use crate::scan::{gap_len, word_at};
 use crate::word::Placed;
 
-// Kept without Debug and PartialEq: nobody prints or compares a text that is being read.
-#[derive(Clone, Copy)]
+#[derive(Clone, Copy, Debug, PartialEq, Eq)]
 pub struct WordReader<'a> {
     text: &'a [u8],
     at: usize,

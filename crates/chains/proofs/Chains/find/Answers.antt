@@ -4,7 +4,7 @@ use Rattle.chains.proofs.Walks.{Walk, walk_start, walk_back}
 use Rattle.chains.proofs.Chains.find.Goals as goal
 
 pub loop-at-init : goal.loop-at-init
-loop-at-init g c = walk_start _ _ _ _ c.last-at.ensures
+loop-at-init g c = walk_start _ _ _ _ c.last-at.ensures.value
 
 pub loop-at-smaller : goal.loop-at-smaller
 loop-at-smaller g c =

@@ -4,9 +4,10 @@ ghost use Rattle.std.specs.List.{prefix_len};
 ghost use Rattle.answers.specs.Input.{kept_bytes, bytes_in, no_feed_lem, to_feed, behind_feed, LongLinesNeedNotBeKept};
 
 use crate::line::Line;
+use questions::LINE_BYTES;
 use std::alloc::{AllocError, Global};
 
-const KEPT_BYTES: usize = 1025;
+const KEPT_BYTES: usize = LINE_BYTES + 1;
 
 // How many bytes stand in front of the next line feed.
 fn line_len(bytes: &[u8]) -> usize

@@ -37,6 +37,7 @@ impl Chains {
     }
 
     /// The last entry of a bucket for which the test answers true.
+    // Kept: a walk, since `successors` asks for a proof that a chain ends, which four goals did not give.
     pub fn find<F: Fn(usize) -> bool>(&self, bucket: usize, test: F) -> Option<usize>
         requires { (i : ℕ) → i < length (buckets_in self.now) → F.pre test i }
         ensures found { IfSome result (IsLastPassing (buckets_in self.now) bucket (F.post test)) }

@@ -14,7 +14,7 @@ pub enum Stop {
     Length,
 }
 
-// Kept: written by hand, since a derived conversion would not say which stop `?` makes.
+// Kept: written by hand, since a derived conversion would not say which stop `?` makes of a full path.
 impl From<PathFull> for Stop {
     ghost from_gives = { λ _ s. s ≡ stop.Path };
 

@@ -6,6 +6,7 @@ use engine::Machine;
 use sentences::Question;
 
 /// The store and the machine over it, the question held, and the steps granted and taken for it.
+// Kept: question, grants and steps stay three fields, since clauses and definitions speak of each, and steps are shown while no question is held too.
 #[derive(Drop)]
 pub struct Evaluator<S> {
     store: S,

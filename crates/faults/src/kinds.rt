@@ -38,7 +38,7 @@ pub enum GrammarFault {
     Keeper(KeeperFault),
 }
 
-// The conversions are kept by hand: the readers' clauses name the fault that a `?` makes, by `from_gives`.
+// Kept by hand: each lower fault is wrapped whole, and `from_gives` tells whoever carries one up what it becomes, which a derived conversion does not.
 
 impl From<WordFault> for GrammarFault {
     ghost from_gives = { λ e r. r ≡ fault.Word e };

@@ -84,11 +84,7 @@ impl NameTable {
     pub fn name(&self, k: usize) -> Option<&[u8]>
         ensures { option_map (λ x. x.now) result ≡ name_at (names_in self.now) k }
     {
-        if k < self.len() {
-            Some(self.part(k))
-        } else {
-            None
-        }
+        (k < self.len()).then(|| self.part(k))
     }
 
     fn is_name(&self, k: usize, name: &[u8]) -> bool
@@ -98,6 +94,7 @@ impl NameTable {
     }
 
     /// The number of a name, or the one that it would get.
+    // Kept: a number also where the name is new, since that is the one which it gets next.
     pub fn number(&self, name: &[u8]) -> usize
         ensures { result ≡ number (names_in self.now) name.now }
     {

@@ -1,5 +1,6 @@
 // Where a name stands in the table's bytes, and the refusal of a name.
 
+// Kept beside the span of kept: a crate for a struct of two numbers, on which both would stand, is no plainer.
 #[derive(Clone, Copy, Debug, PartialEq, Eq)]
 pub struct Part {
     pub start: usize,

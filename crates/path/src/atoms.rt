@@ -6,6 +6,7 @@ ghost use Rattle.std.specs.Cmp as Keys;
 ghost use Rattle.std.specs.Cmp.Rules.{comparing};
 ghost use Rattle.std.specs.Cmp.Lexicographic.{pointwise};
 ghost use Rattle.terms.specs.Limits.{path_limit};
+ghost use Rattle.terms.specs.Maps.{same_atoms};
 ghost use Rattle.path.specs.Atoms.{atoms_of, Joined};
 
 use crate::{Path, PathFull};
@@ -52,6 +53,15 @@ impl Path {
             self.push(*atom)?;
         }
         Ok(())
+    }
+
+    /// Whether `==` holds.
+    // Kept: its clause says it by the word of the definitions, which that of `==` does not have.
+    #[tactic(auto, using(crate::proofs::Paths::pointwise_same))]
+    pub fn same(&self, other: &Path) -> bool
+        ensures { result ≡ same_atoms (atoms_of self.now) (atoms_of other.now) }
+    {
+        *self == *other
     }
 }
 

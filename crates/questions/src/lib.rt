@@ -6,7 +6,6 @@ ghost use Rattle.questions.specs.Lines.{read_line, names_left, line_of, names_of
 ghost use Rattle.questions.specs.Questions.{IsReadRightly};
 ghost use Rattle.questions.specs.FirstFaults.{IsRefusedRightly};
 
-use line_fault::LINE_BYTES;
 use names::Names;
 use parts::question;
 
@@ -16,7 +15,7 @@ mod parts;
 
 pub use asked::Asked;
 pub use faults::NameFault;
-pub use line_fault::LineFault;
+pub use line_fault::{LINE_BYTES, LineFault};
 
 /// Reads a line: what it asks, nothing where it has no words, or its first fault. The names of a question are numbered as first met;
 /// any other line leaves the names as they were.

@@ -1,6 +1,7 @@
 // Questions: a first one, and one in the same context.
 ghost use Rattle.std.specs.Prelude.{◌≡◌};
 ghost use Rattle.rules.specs.Questions.{own, same};
+ghost use Rattle.rules.specs.Evaluation.{same_question};
 ghost use Rattle.path.specs.Atoms.{atoms_of};
 ghost use Rattle.sentences.specs.Kept.{question_of};
 
@@ -43,5 +44,14 @@ impl Question {
         ensures { result.now ≡ (question_of self.now).path }
     {
         self.path.as_slice()
+    }
+
+    /// Whether `==` holds: equal in node, path and context.
+    // Kept: its clause says it by the word of the definitions, which that of a derived `==` does not have.
+    #[tactic(auto, using(crate::proofs::Same::compared))]
+    pub fn same(&self, other: &Question) -> bool
+        ensures { result ≡ same_question (question_of self.now) (question_of other.now) }
+    {
+        *self == *other
     }
 }

@@ -16,7 +16,7 @@ impl Open {
     pub fn is_for(&self, question: &Question) -> bool
         ensures { result ≡ same_question (question_of question.now) (question_of self.now.at) }
     {
-        *question == self.at
+        question.same(&self.at)
     }
 
     /// What the left path leaves of the question's path.

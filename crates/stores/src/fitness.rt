@@ -8,20 +8,10 @@ use crate::Refusal;
 use terms::limits::{NESTING, PATH_ATOMS, RIGHT_ITEMS};
 use terms::{Atom, Item, Node};
 
-fn is_item_in_range(item: Item) -> bool
-    ensures { result ≡ item_in_range item }
-{
-    match item {
-        Item::Atom(atom) => atom.is_in_range(),
-        Item::Node(_, node) | Item::Open(_, Some(node)) => node.is_in_range(),
-        Item::Open(_, None) | Item::Close => true,
-    }
-}
-
 fn are_items_in_range(right: &[Item]) -> bool
     ensures { result ≡ every item_in_range right.now }
 {
-    right.iter().all(|item| is_item_in_range(*item))
+    right.iter().all(|item| item.is_in_range())
 }
 
 // How many paths are open after an item, where most may be open at a time.

@@ -1,6 +1,6 @@
 // Nodes, atoms, and the items that a right side is kept as.
 ghost use Rattle.std.specs.Prelude.{◌≡◌};
-ghost use Rattle.terms.specs.Maps.{every, node_in_range, atom_in_range};
+ghost use Rattle.terms.specs.Maps.{every, node_in_range, atom_in_range, item_in_range};
 
 use crate::limits::{ATOMS, NODES};
 
@@ -48,4 +48,17 @@ pub enum Item {
     Node(Quoting, Node),
     Open(Quoting, Option<Node>),
     Close,
+}
+
+impl Item {
+    /// Whether its node or atom may have its number.
+    pub fn is_in_range(self) -> bool
+        ensures { result ≡ item_in_range self }
+    {
+        match self {
+            Item::Atom(atom) => atom.is_in_range(),
+            Item::Node(_, node) | Item::Open(_, Some(node)) => node.is_in_range(),
+            Item::Open(_, None) | Item::Close => true,
+        }
+    }
 }

@@ -1,4 +1,4 @@
-// The limits, each in one place. `specs/Limits.antt` has the same for the definitions.
+// The limits, each in one place. `specs/Limits.antt` has the same for the definitions, but for the length of names, which those of words and names have.
 ghost use Rattle.std.specs.Prelude.{◌≡◌, [], ◌∷◌};
 ghost use Rattle.terms.specs.Limits.{node_limit, atom_limit, path_limit, item_limit, nesting_limit, open_limit, value_limit, step_limit};
 

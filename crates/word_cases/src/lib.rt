@@ -39,6 +39,7 @@ fn put_fault(out: &mut Vec<u8>, fault: WordFault) -> io::Result<()> {
 fn listing(heap: Global, text: &[u8]) -> io::Result<Vec<u8>> {
     let mut out = Vec::new(heap);
     let mut reader = WordReader::new(text);
+    // A bound, so that the loop ends: no text has more words than bytes.
     for _ in 0..=text.len() {
         match reader.next() {
             Ok(placed) => {

@@ -29,12 +29,8 @@ impl<'a> WordReader<'a> {
     {
         let text = self.text;
         let place = self.at + gap_len(&text[self.at..]);
-        match word_at(text, place) {
-            Ok((word, after)) => {
-                self.at = after;
-                Ok(Placed { place, word })
-            }
-            Err(refusal) => Err(WordFault { refusal, place }),
-        }
+        let (word, after) = word_at(text, place).map_err(|refusal| WordFault { refusal, place })?;
+        self.at = after;
+        Ok(Placed { place, word })
     }
 }

@@ -55,7 +55,7 @@ fn run_len<F: Fn(u8) -> bool>(bytes: &[u8], passes: F) -> usize
     bytes.iter().take_while(|b| passes(**b)).count()
 }
 
-// Kept here and below: each reader of a word says that the word ends within the text, since a type that holds it would hold the text once more.
+// Kept here and below: these are no methods of the reader, since a fault leaves it as it was; so each says that its word ends within the text.
 
 // An unquoted name, and the place behind it.
 fn bare_name<'a>(text: &'a [u8], place: usize) -> Result<(&'a [u8], usize), WordRefusal>
@@ -78,7 +78,7 @@ fn quoted_name<'a>(text: &'a [u8], place: usize) -> Result<(&'a [u8], usize), Wo
 {
     let start = place + 1;
     let end = start + run_len(&text[start..], is_of_quoted_name);
-    if end == text.len() || text[end] != b'\'' {
+    if text.get(end) != Some(&b'\'') {
         return Err(WordRefusal::OpenQuote);
     }
     if end == start || end - start > NAME_BYTES {
@@ -99,7 +99,7 @@ fn mark_word<'a>(text: &'a [u8], place: usize, m: Mark) -> Result<(Word<'a>, usi
             Ok((Word::Atom(name), after))
         }
         Mark::Equals => {
-            if place + 1 < text.len() && text[place + 1] == b'=' {
+            if text.get(place + 1) == Some(&b'=') {
                 Ok((Word::Equals, place + 2))
             } else {
                 Ok((Word::Stray, place + 1))

@@ -14,6 +14,7 @@ use flat::FlatList;
 use pile::Pile;
 use stores::{Keeper, Store};
 use terms::Node;
+use terms::limits::STEPS;
 use tree::PrefixTree;
 
 /// Asks each question of the theory, and grants one step after the other.
@@ -24,6 +25,7 @@ fn ask_all<S: Store + Drop>(rt: &HostRuntime, title: &str, store: S) -> anyhow::
         let _ = evaluator.begin(question.node, question.path);
         print::question(rt, question.node, question.path)?;
         print!(rt; " : unfinished")?;
+        // A bound, so that the loop ends; no question here takes as many steps.
         for _ in 0..1000 {
             let Outcome::Unfinished = evaluator.outcome() else {
                 break;
@@ -44,11 +46,7 @@ fn ask_at_once<S: Store + Drop>(
     node: Node,
 ) -> anyhow::Result<()> {
     let machine = Machine::new(rt.alloc())?;
-    let evaluator = evaluate(
-        machine,
-        store,
-        &[Call::Begin(node, &[]), Call::Work(1_000_000)],
-    );
+    let evaluator = evaluate(machine, store, &[Call::Begin(node, &[]), Call::Work(STEPS)]);
     print!(rt; "{title}")?;
     print::count(rt, &evaluator)?;
     Ok(())

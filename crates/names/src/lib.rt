@@ -84,7 +84,11 @@ impl NameTable {
     pub fn name(&self, k: usize) -> Option<&[u8]>
         ensures { option_map (λ x. x.now) result ≡ name_at (names_in self.now) k }
     {
-        (k < self.len()).then(|| self.part(k))
+        if k < self.len() {
+            Some(self.part(k))
+        } else {
+            None
+        }
     }
 
     fn is_name(&self, k: usize, name: &[u8]) -> bool

@@ -1,6 +1,7 @@
 mod Onward
 pub mod Runs
 pub mod Turns
+pub mod Passing
 pub mod Sides
 pub mod Lefts
 pub mod LateRefusals

@@ -21,7 +21,7 @@ use std::mem::swap;
 use stores::Keeper;
 use terms::Node;
 
-// Kept: keeper and node are the caller's, and what is read of a text is said of two states of a reader, which no type holds.
+// Kept: that there is room, and that few words are left, is no fact of a reader whose word is a fault, behind which its type does not say what stands; nesting left changes from call to call.
 impl Loader {
     // The left path of an equation; or the full stop that ends the block.
     fn equation(&mut self, reader: &mut Reader<'_, '_>) -> Result<Option<Due>, GrammarFault>
@@ -170,10 +170,7 @@ impl Loader {
         ensures less { is_ok result ≡ true → words_left reader.new < words_left reader.old }
     {
         reader.advance();
-        let Ok(Word::Colon) = reader.parser.word else {
-            return Err(reader.misplaced());
-        };
-        reader.advance();
+        reader.pass(Word::Colon)?;
         self.left.clear();
         let mut next = Some(Due::Equation);
         while let Some(due) = next {

@@ -17,6 +17,7 @@ pub(crate) fn keep<K: Keeper>(
     requires { Spelt (sentence node left.now right.now) }
     ensures goes { Keeps K.Keeper.limits (K.Keeper.kept keeper.old) (sentence node left.now right.now) place result (K.Keeper.kept keeper.new) }
 {
+    // Kept: by match; the closure for map_err would need clauses that say that the refusal is a late one and what the fault is, and be no plainer.
     match keeper.add(node, left, right) {
         Ok(()) => Ok(()),
         Err(refusal) => Err(GrammarFault::from(KeeperFault { refusal, place })),

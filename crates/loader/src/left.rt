@@ -25,15 +25,11 @@ impl Reader<'_, '_> {
             left.push_reserved(a);
             self.advance();
         }
-        match self.parser.word {
-            Ok(Word::Greater) => self.advance(),
-            Ok(Word::UnnumberedAtom) => return Err(no_number(self.parser.place)),
-            _ => return Err(self.misplaced()),
+        if let Ok(Word::UnnumberedAtom) = self.parser.word {
+            return Err(no_number(self.parser.place));
         }
-        let Ok(Word::Equals) = self.parser.word else {
-            return Err(self.misplaced());
-        };
-        self.advance();
+        self.pass(Word::Greater)?;
+        self.pass(Word::Equals)?;
         Ok(())
     }
 }

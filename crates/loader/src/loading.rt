@@ -66,14 +66,12 @@ impl Loader {
     {
         let nodes = names.node_count();
         let atoms = names.atom_count();
-        match self.theory(text, names, keeper) {
-            Ok(()) => Ok(()),
-            Err(fault) => {
-                keeper.clear();
-                names.truncate(nodes, atoms);
-                Err(fault)
-            }
+        let read = self.theory(text, names, keeper);
+        if read.is_err() {
+            keeper.clear();
+            names.truncate(nodes, atoms);
         }
+        read
     }
 
     /// Empties the keeper and keeps the sentences of a text, its names being numbered as met. A text that is refused leaves the

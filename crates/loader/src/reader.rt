@@ -1,6 +1,6 @@
 // A text's words, one ahead, with the names that they meet.
 use faults::GrammarFault;
-use lookahead::Parser;
+use lookahead::{Parser, Word};
 use names::Names;
 
 /// The words ahead, and the names as they are known by then.
@@ -13,7 +13,7 @@ pub struct Reader<'r, 'a> {
 impl Reader<'_, '_> {
     ghost use Rattle.std.specs.Prelude.{◌≡◌};
     ghost use Rattle.lookahead.specs.Ahead.{later, final, rest, size, Moves, names_of, fault_number};
-    ghost use Rattle.loader.specs.Onward.{Onward};
+    ghost use Rattle.loader.specs.Onward.{Onward, Passes};
     ghost use Rattle.faults.specs.Grammar.{number, place};
 
     /// On to the next word.
@@ -23,6 +23,18 @@ impl Reader<'_, '_> {
         ensures size { size (rest (names_of self.new.names.now) self.new.parser) ≡ size (later (names_of self.old.names.now) self.old.parser) }
     {
         self.parser.advance(self.names);
+    }
+
+    /// On behind the word, which must be the one ahead.
+    pub(crate) fn pass(&mut self, word: Word) -> Result<(), GrammarFault>
+        ensures passes { Passes word self.old result self.new }
+        ensures onward { Onward self.old self.new }
+    {
+        if self.parser.word != Ok(word) {
+            return Err(self.misplaced());
+        }
+        self.advance();
+        Ok(())
     }
 
     /// The fault of the word ahead where no theory has it.

@@ -6,8 +6,7 @@ ghost use Rattle.terms.specs.Maps.{node_in_range, item_in_range};
 ghost use Rattle.grammar.specs.Parsing.{ready, noded, coloned, quoting, quoted_node};
 ghost use Rattle.faults.specs.declared.kinds.GrammarFault.TheVariants as fault;
 ghost use Rattle.lookahead.specs.declared.word.Word.TheVariants as w;
-ghost use Rattle.loader.specs.Onward.{Onward};
-ghost use Rattle.loader.specs.Readings.{is_less_lem, starts, is_next, words_left, HasRoom, TakesWords, ReadsTerms, ReadsPath, ReadsEnd, ReadsSide, Stops};
+ghost use Rattle.loader.specs.Readings.{is_less_lem, starts, is_next, words_left, HasRoom, TakesWords, ReadsTerms, ReadsPath, ReadsSide, Stops};
 
 use crate::ends::NextEquation;
 use crate::reader::Reader;
@@ -39,15 +38,14 @@ pub(crate) fn no_number(place: usize) -> GrammarFault
     GrammarFault::from(NameFault { place })
 }
 
-// Kept: that a right side stands in ( ) is a fact of two values, and the definitions have it as one.
+// Kept here and in right_side: that a right side stands in ( ) is a fact of two values, and the definitions have it as one.
 fn begins_next(round: bool, word: Result<Word, WordRefusal>) -> bool
     ensures { result ≡ is_next round word }
 {
     !round && matches!(word, Ok(Word::Equals))
 }
 
-// Kept: the items of one right side are filled by one reader after the other, which says how far; nesting left and room change from call to call, so that clauses
-// say them and no type.
+// Kept: that there is room, and that few words are left, is no fact of a reader whose word is a fault, behind which its type does not say what stands; nesting left changes from call to call.
 impl Reader<'_, '_> {
     // A path from its < on, the node and the quote mark before it being read.
     #[cycle(term_readers)]
@@ -72,27 +70,12 @@ impl Reader<'_, '_> {
         items.push_reserved(Item::Open(quoting, node));
         self.advance();
         self.terms(items, left - 1)?;
-        let Ok(Word::Greater) = self.parser.word else {
-            return Err(self.misplaced());
-        };
+        self.pass(Word::Greater)?;
         items.push_reserved(Item::Close);
-        self.advance();
         match quoting {
             Quoting::Plain => Ok(()),
-            Quoting::Quoted => self.end_quote(),
+            Quoting::Quoted => self.pass(Word::Quote),
         }
-    }
-
-    fn end_quote(&mut self) -> Result<(), GrammarFault>
-        ensures goes { ReadsEnd self.old result self.new }
-        ensures onward { Onward self.old self.new }
-        ensures less { is_ok result ≡ true → words_left self.new ≤ words_left self.old }
-    {
-        let Ok(Word::Quote) = self.parser.word else {
-            return Err(self.misplaced());
-        };
-        self.advance();
-        Ok(())
     }
 
     #[cycle(term_readers)]

@@ -13,6 +13,7 @@ use Rattle.lookahead.specs.Ended.{number_in_range}
 use Rattle.loader.proofs.Runs
 use Rattle.loader.proofs.Onward
 use Rattle.loader.proofs.Turns
+use Rattle.loader.proofs.Passing
 use Rattle.loader.proofs.reader.Reader.+term_readers.Goals as goal
 
 pub named_path-returns-in_default-clause-goes : goal.named_path-returns-in_default-clause-goes
@@ -119,42 +120,44 @@ path-returns-in_err-terms-clause-goes t c =
     let p = err_from_is_err_and c.from_residual.result c.from_residual.ensures.1 in
     rw (p.1, p.2) (λ l h r f b d. Turns.with_names _ (Runs.at_less l h r f b _ _ _ c.args.quoting c.args.node c.requires.starts (omega arith)) ∙ c.advance.ensures.moves l _ ∙ c.in_err-terms.ensures.goes l h r (within c.args.self.now.parser.place c.args.quoting c.args.node b f) done (omega arith))
 
-pub path-returns-in_default-clause-goes : goal.path-returns-in_default-clause-goes
-path-returns-in_default-clause-goes t c =
+pub path-returns-in_err-pass-clause-goes : goal.path-returns-in_err-pass-clause-goes
+path-returns-in_err-pass-clause-goes t c =
     let told = c.in_ok-terms.ensures in
-    let not : c.terms.new.self.parser.word ≡ Ok w.Greater → ⊥ = λ q. grind arith in
-    λ l h r f b d. Turns.path_inside c.args.left c.args.quoting c.args.node _ _ _ _ _ _ _ _ _ _ c.requires.starts (omega arith) c.advance.ensures.moves told.goes l h r f b d ∙ Turns.by_number l _ _ _ _ _ c.misplaced.result (Runs.no_close l h r _ c.args.quoting c.args.node b f _ _ _ _ (told.stops refl) not) c.misplaced.ensures.number c.misplaced.ensures.place
+    let no = c.in_err-pass.ensures.passes in
+    let p = err_from_is_err_and c.from_residual-in_err-pass.result c.from_residual-in_err-pass.ensures.1 in
+    rw (p.1, p.2) (λ l h r f b d. Turns.path_inside c.args.left c.args.quoting c.args.node _ _ _ _ _ _ _ _ _ _ c.requires.starts (omega arith) c.advance.ensures.moves told.goes l h r f b d ∙ Turns.by_number l _ _ _ _ _ c.in_err-pass.field-0.0 (Runs.no_close l h r _ c.args.quoting c.args.node b f _ _ _ _ (told.stops refl) no.other) no.kind no.at)
 
 pub path-push_reserved-requires-2 : goal.path-push_reserved-requires-2
 path-push_reserved-requires-2 t c =
-    let e : c.terms.new.self.parser.word ≡ Ok w.Greater = search rules in
     let told = c.in_ok-terms.ensures in
+    let close = c.in_ok-pass.ensures.passes in
     let z = Runs.one_word c.args.self.now.parser.place c.args.self.now.parser.word w.Less _ _ (Runs.only_less _ c.requires.starts) refl c.advance.ensures.size in
-    let g = Runs.one_word c.terms.new.self.parser.place c.terms.new.self.parser.word w.Greater (later (names_of c.terms.new.self.names.now) c.terms.new.self.parser) (later (names_of c.terms.new.self.names.now) c.terms.new.self.parser) e refl refl in
+    let g = Runs.one_word c.terms.new.self.parser.place c.terms.new.self.parser.word w.Greater _ _ close.ahead refl close.taken in
     omega (arith, told.takes.each refl, told.takes.capacity, c.requires.room, c.push_reserved.ensures.len, c.push_reserved.ensures.capacity)
 
 pub path-returns-in-Plain : goal.path-returns-in-Plain
 path-returns-in-Plain t c =
     let told = c.in_ok-terms.ensures in
-    let g : c.terms.new.self.parser.word ≡ Ok w.Greater = search rules in
+    let close = c.in_ok-pass.ensures.passes in
     let z₁ = Runs.one_word c.args.self.now.parser.place c.args.self.now.parser.word w.Less _ _ (Runs.only_less _ c.requires.starts) refl c.advance.ensures.size in
-    let z₂ = Runs.one_word c.terms.new.self.parser.place c.terms.new.self.parser.word w.Greater _ _ g refl c.advance-2.ensures.size in
+    let z₂ = Runs.one_word c.terms.new.self.parser.place c.terms.new.self.parser.word w.Greater _ _ close.ahead refl close.taken in
     record {
-      goes = Turns.path_plain c.args.left c.args.quoting c.args.node _ _ _ _ _ _ _ _ _ _ _ _ _ _ _ _ c.requires.starts (omega arith) c.advance.ensures.moves told.goes g c.advance-2.ensures.moves c.push_reserved.ensures.items c.push_reserved-2.ensures.items c.requires.named c.in-Plain.is;
+      goes = Turns.path_plain c.args.left c.args.quoting c.args.node _ _ _ _ _ _ _ _ _ _ _ _ _ _ _ _ c.requires.starts (omega arith) c.advance.ensures.moves told.goes close.ahead close.moves c.push_reserved.ensures.items c.push_reserved-2.ensures.items c.requires.named c.in-Plain.is;
       less = λ e. omega (arith, told.less refl);
-      takes = record { onward = Onward.on _ _ _ (Onward.on _ _ _ c.advance.ensures.onward told.takes.onward) c.advance-2.ensures.onward; capacity = c.push_reserved-2.ensures.capacity ∙ told.takes.capacity ∙ c.push_reserved.ensures.capacity; each = λ e. omega (arith, told.takes.each refl, c.push_reserved.ensures.len, c.push_reserved-2.ensures.len) };
+      takes = record { onward = Onward.on _ _ _ (Onward.on _ _ _ c.advance.ensures.onward told.takes.onward) c.in_ok-pass.ensures.onward; capacity = c.push_reserved-2.ensures.capacity ∙ told.takes.capacity ∙ c.push_reserved.ensures.capacity; each = λ e. omega (arith, told.takes.each refl, c.push_reserved.ensures.len, c.push_reserved-2.ensures.len) };
     }
 
 pub path-returns-in-Quoted : goal.path-returns-in-Quoted
 path-returns-in-Quoted t c =
     let told = c.in_ok-terms.ensures in
-    let g : c.terms.new.self.parser.word ≡ Ok w.Greater = search rules in
+    let close = c.in_ok-pass.ensures.passes in
+    let end = c.pass-in-Quoted.ensures in
     let z₁ = Runs.one_word c.args.self.now.parser.place c.args.self.now.parser.word w.Less _ _ (Runs.only_less _ c.requires.starts) refl c.advance.ensures.size in
-    let z₂ = Runs.one_word c.terms.new.self.parser.place c.terms.new.self.parser.word w.Greater _ _ g refl c.advance-2.ensures.size in
+    let z₂ = Runs.one_word c.terms.new.self.parser.place c.terms.new.self.parser.word w.Greater _ _ close.ahead refl close.taken in
     record {
-      goes = Turns.path_quoted c.args.left c.args.quoting c.args.node _ _ _ _ _ _ _ _ _ _ _ _ _ _ _ _ c.requires.starts (omega arith) c.advance.ensures.moves told.goes g c.advance-2.ensures.moves c.push_reserved.ensures.items c.push_reserved-2.ensures.items c.requires.named _ _ _ c.in-Quoted.is c.end_quote.ensures.goes;
-      less = λ e. omega (arith, told.less refl, c.end_quote.ensures.less e);
-      takes = record { onward = Onward.on _ _ _ (Onward.on _ _ _ (Onward.on _ _ _ c.advance.ensures.onward told.takes.onward) c.advance-2.ensures.onward) c.end_quote.ensures.onward; capacity = c.push_reserved-2.ensures.capacity ∙ told.takes.capacity ∙ c.push_reserved.ensures.capacity; each = λ e. omega (arith, told.takes.each refl, c.end_quote.ensures.less e, c.push_reserved.ensures.len, c.push_reserved-2.ensures.len) };
+      goes = Turns.path_quoted c.args.left c.args.quoting c.args.node _ _ _ _ _ _ _ _ _ _ _ _ _ _ _ _ c.requires.starts (omega arith) c.advance.ensures.moves told.goes close.ahead close.moves c.push_reserved.ensures.items c.push_reserved-2.ensures.items c.requires.named _ _ _ c.in-Quoted.is (Passing.ends _ _ _ end.passes);
+      less = λ e. omega (arith, told.less refl, Passing.fewer _ _ _ end.passes e);
+      takes = record { onward = Onward.on _ _ _ (Onward.on _ _ _ (Onward.on _ _ _ c.advance.ensures.onward told.takes.onward) c.in_ok-pass.ensures.onward) end.onward; capacity = c.push_reserved-2.ensures.capacity ∙ told.takes.capacity ∙ c.push_reserved.ensures.capacity; each = λ e. omega (arith, told.takes.each refl, Passing.fewer _ _ _ end.passes e, c.push_reserved.ensures.len, c.push_reserved-2.ensures.len) };
     }
 
 pub term-returns-in-Ok-Less-clause-goes : goal.term-returns-in-Ok-Less-clause-goes

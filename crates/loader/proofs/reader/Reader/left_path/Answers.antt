@@ -1,4 +1,5 @@
 use Rattle.std.proofs.Common.{◌≡◌, Ok, rules, List, [], ◌∷◌, ◌++◌, vec_items, sym, refl, ap, ◌∙◌, arith}
+use Rattle.std.proofs.lemmas.Result.{err_from_is_err_and}
 use Rattle.terms.specs.declared.items.Atom.{Atom}
 use Rattle.terms.specs.Maps.{every, atom_in_range}
 use Rattle.grammar.specs.Parsing.{lefting, lefted}
@@ -50,31 +51,34 @@ loop-self-preserved c =
       c.push_reserved.ensures.capacity ∙ c.loop-self.invariant.5,
     )
 
-pub returns-in_default-word-clause-goes : goal.returns-in_default-word-clause-goes
-returns-in_default-word-clause-goes c =
+pub returns-in_err-pass-clause-goes : goal.returns-in_err-pass-clause-goes
+returns-in_err-pass-clause-goes c =
     let not_atom : (a : Atom) → c.loop-self.self.parser.word ≡ Ok (w.Atom a) → ⊥ = λ a q. grind arith in
     let no_atom : c.loop-self.self.parser.word ≡ Ok w.UnnumberedAtom → ⊥ = λ q. grind arith in
-    let not_greater : c.loop-self.self.parser.word ≡ Ok w.Greater → ⊥ = λ q. grind arith in λ l f. Turns.with_names _ (Lefts.at_less l f c.args.self.now.parser.place c.args.self.now.parser.word (later (names_of c.args.self.now.names.now) c.args.self.now.parser) c.requires.starts) ∙ c.advance.ensures.moves l (lefting f c.args.self.now.parser.place []) ∙ c.loop-self.invariant.0 l f c.args.self.now.parser.place ∙ Turns.by_number l _ _ _ _ _ c.misplaced.result (Lefts.no_greater l f _ _ _ _ _ not_atom no_atom not_greater) c.misplaced.ensures.number c.misplaced.ensures.place
+    let no = c.in_err-pass.ensures.passes in
+    let p = err_from_is_err_and c.from_residual.result c.from_residual.ensures.1 in
+    rw (p.1, p.2) (λ l f. Turns.with_names _ (Lefts.at_less l f c.args.self.now.parser.place c.args.self.now.parser.word (later (names_of c.args.self.now.names.now) c.args.self.now.parser) c.requires.starts) ∙ c.advance.ensures.moves l (lefting f c.args.self.now.parser.place []) ∙ c.loop-self.invariant.0 l f c.args.self.now.parser.place ∙ Turns.by_number l _ _ _ _ _ c.in_err-pass.field-0.0 (Lefts.no_greater l f _ _ _ _ _ not_atom no_atom no.other) no.kind no.at)
 
-pub returns-in_default-word-2-clause-goes : goal.returns-in_default-word-2-clause-goes
-returns-in_default-word-2-clause-goes c =
-    let g : c.loop-self.self.parser.word ≡ Ok w.Greater = search rules in
-    let not : c.advance-in-Ok-Greater.new.self.parser.word ≡ Ok w.Equals → ⊥ = λ q. grind arith in
-    λ l f. Turns.with_names _ (Lefts.at_less l f c.args.self.now.parser.place c.args.self.now.parser.word (later (names_of c.args.self.now.names.now) c.args.self.now.parser) c.requires.starts) ∙ c.advance.ensures.moves l (lefting f c.args.self.now.parser.place []) ∙ c.loop-self.invariant.0 l f c.args.self.now.parser.place ∙ Turns.with_names _ (Lefts.at_greater l f _ _ _ _ _ g) ∙ c.advance-in-Ok-Greater.ensures.moves l (lefted (record { front = f; place = c.args.self.now.parser.place; left = vec_items c.loop-self.left })) ∙ Turns.by_number l _ _ _ _ _ c.misplaced-in_default-word-2.result (Lefts.no_equals l _ _ _ _ not) c.misplaced-in_default-word-2.ensures.number c.misplaced-in_default-word-2.ensures.place
+pub returns-in_err-pass-2-clause-goes : goal.returns-in_err-pass-2-clause-goes
+returns-in_err-pass-2-clause-goes c =
+    let greater = c.in_ok-pass.ensures.passes in
+    let no = c.in_err-pass-2.ensures.passes in
+    let p = err_from_is_err_and c.from_residual-in_err-pass-2.result c.from_residual-in_err-pass-2.ensures.1 in
+    rw (p.1, p.2) (λ l f. Turns.with_names _ (Lefts.at_less l f c.args.self.now.parser.place c.args.self.now.parser.word (later (names_of c.args.self.now.names.now) c.args.self.now.parser) c.requires.starts) ∙ c.advance.ensures.moves l (lefting f c.args.self.now.parser.place []) ∙ c.loop-self.invariant.0 l f c.args.self.now.parser.place ∙ Turns.with_names _ (Lefts.at_greater l f _ _ _ _ _ greater.ahead) ∙ greater.moves l (lefted (record { front = f; place = c.args.self.now.parser.place; left = vec_items c.loop-self.left })) ∙ Turns.by_number l _ _ _ _ _ c.in_err-pass-2.field-0.0 (Lefts.no_equals l _ _ _ _ no.other) no.kind no.at)
 
 pub returns : goal.returns
 returns c =
-    let g : c.loop-self.self.parser.word ≡ Ok w.Greater = search rules in
-    let q : c.advance-in-Ok-Greater.new.self.parser.word ≡ Ok w.Equals = search rules in
+    let greater = c.in_ok-pass.ensures.passes in
+    let equals = c.in_ok-pass-2.ensures.passes in
     let z₁ = Runs.one_word c.args.self.now.parser.place c.args.self.now.parser.word w.Less _ _ (Runs.only_less _ c.requires.starts) refl c.advance.ensures.size in
-    let z₂ = Runs.one_word c.loop-self.self.parser.place c.loop-self.self.parser.word w.Greater _ _ g refl c.advance-in-Ok-Greater.ensures.size in
-    let z₃ = Runs.one_word c.advance-in-Ok-Greater.new.self.parser.place c.advance-in-Ok-Greater.new.self.parser.word w.Equals _ _ q refl c.advance-2.ensures.size in
+    let z₂ = Runs.one_word c.loop-self.self.parser.place c.loop-self.self.parser.word w.Greater _ _ greater.ahead refl greater.taken in
+    let z₃ = Runs.one_word c.pass.new.self.parser.place c.pass.new.self.parser.word w.Equals _ _ equals.ahead refl equals.taken in
     record {
       goes = record {
         in_range = c.loop-self.invariant.1;
-        comes = λ l f. Turns.with_names _ (Lefts.at_less l f c.args.self.now.parser.place c.args.self.now.parser.word (later (names_of c.args.self.now.names.now) c.args.self.now.parser) c.requires.starts) ∙ c.advance.ensures.moves l (lefting f c.args.self.now.parser.place []) ∙ c.loop-self.invariant.0 l f c.args.self.now.parser.place ∙ Turns.with_names _ (Lefts.at_greater l f _ _ _ _ _ g) ∙ c.advance-in-Ok-Greater.ensures.moves l (lefted (record { front = f; place = c.args.self.now.parser.place; left = vec_items c.loop-self.left })) ∙ Turns.with_names _ (Lefts.at_equals l _ _ _ _ q) ∙ c.advance-2.ensures.moves l _;
+        comes = λ l f. Turns.with_names _ (Lefts.at_less l f c.args.self.now.parser.place c.args.self.now.parser.word (later (names_of c.args.self.now.names.now) c.args.self.now.parser) c.requires.starts) ∙ c.advance.ensures.moves l (lefting f c.args.self.now.parser.place []) ∙ c.loop-self.invariant.0 l f c.args.self.now.parser.place ∙ Turns.with_names _ (Lefts.at_greater l f _ _ _ _ _ greater.ahead) ∙ greater.moves l (lefted (record { front = f; place = c.args.self.now.parser.place; left = vec_items c.loop-self.left })) ∙ Turns.with_names _ (Lefts.at_equals l _ _ _ _ equals.ahead) ∙ equals.moves l _;
       };
-      onward = Onward.on _ _ _ (Onward.on _ _ _ (Onward.on _ _ _ c.advance.ensures.onward c.loop-self.invariant.2) c.advance-in-Ok-Greater.ensures.onward) c.advance-2.ensures.onward;
+      onward = Onward.on _ _ _ (Onward.on _ _ _ (Onward.on _ _ _ c.advance.ensures.onward c.loop-self.invariant.2) c.in_ok-pass.ensures.onward) c.in_ok-pass-2.ensures.onward;
       less = λ e. omega (arith, c.loop-self.invariant.3);
       capacity = c.loop-self.invariant.5 ∙ c.clear.ensures.capacity;
     }

@@ -21,7 +21,8 @@ use std::mem::swap;
 use stores::Keeper;
 use terms::Node;
 
-// Kept: that there is room, and that few words are left, is no fact of a reader whose word is a fault, behind which its type does not say what stands; nesting left changes from call to call.
+// Kept: that few words are left is no fact of a reader whose word is a fault, behind which its type does not say what stands; that the atoms of `left` are in range would,
+// as a fact of the loader, have to be promised of a refused path too. Keeper and node are the caller's and stay apart.
 impl Loader {
     // The left path of an equation; or the full stop that ends the block.
     fn equation(&mut self, reader: &mut Reader<'_, '_>) -> Result<Option<Due>, GrammarFault>

@@ -45,7 +45,8 @@ fn begins_next(round: bool, word: Result<Word, WordRefusal>) -> bool
     !round && matches!(word, Ok(Word::Equals))
 }
 
-// Kept: that there is room, and that few words are left, is no fact of a reader whose word is a fault, behind which its type does not say what stands; nesting left changes from call to call.
+// Kept: that there is room is no fact of a reader whose word is a fault, behind which its type does not say what stands; the items are filled by one reader after
+// the other, and the nesting left falls from call to call.
 impl Reader<'_, '_> {
     // A path from its < on, the node and the quote mark before it being read.
     #[cycle(term_readers)]

@@ -10,3 +10,7 @@ pub record IsLastPassing (bs : List ℕ) (b : ℕ) (answers : ℕ → Bool → T
   pub bucket : slice_index bs i ≡ b
   pub passes : answers i true
   pub last : AllFailFrom bs b answers (i + 1)
+
+-- the answers of a test that answers by f
+abbrev pub AnswersBy : (ℕ → Bool) → ℕ → Bool → Type 0
+AnswersBy f i r = r ≡ f i

@@ -1,6 +1,8 @@
 // Entries that are numbered from 0 and stand in buckets, those of one bucket chained from the last back to the first.
 #![tactic(auto)]
 
+ghost use Rattle.std.specs.Prelude.{◌≡◌, ℕ, Bool};
+
 use std::marker::Model;
 
 /// An entry: its bucket, and the entry before it there.
@@ -29,6 +31,15 @@ impl Model for Chains {
     ghost view = { entries_of };
 
     ghost invariant = { Linked };
+}
+
+/// A test of entries, which answers for every number.
+pub trait Test {
+    /// What it answers.
+    ghost answers: { Self → ℕ → Bool };
+
+    fn passes(&self, entry: usize) -> bool
+        ensures { result ≡ answers self.now entry };
 }
 
 /// Why there is no entry more.

@@ -3,11 +3,11 @@ ghost use Rattle.std.specs.Prelude.{◌≡◌, ℕ, ◌-◌, ◌<◌, [], ◌∷
 ghost use Rattle.chains.specs.Last.{last_by, earlier};
 ghost use Rattle.chains.specs.Entries.{with_buckets};
 ghost use Rattle.chains.specs.Held.{buckets_in, width_in, room_in};
-ghost use Rattle.chains.specs.Found.{IsLastPassing, AllFailFrom};
+ghost use Rattle.chains.specs.Found.{AnswersBy, IsLastPassing, AllFailFrom};
 ghost use Rattle.chains.specs.Linked.{Small};
 ghost use Rattle.chains.specs.declared.PushError.{PushError};
 
-use super::{Chains, Link, PushError};
+use super::{Chains, Link, PushError, Test};
 use std::alloc::{AllocError, Global};
 
 impl Chains {
@@ -38,14 +38,13 @@ impl Chains {
 
     /// The last entry of a bucket for which the test answers true.
     // Kept: a walk, since `successors` asks for a proof that a chain ends, which four goals did not give.
-    pub fn find<F: Fn(usize) -> bool>(&self, bucket: usize, test: F) -> Option<usize>
-        requires { (i : ℕ) → i < length (buckets_in self.now) → F.pre test i }
-        ensures found { IfSome result (IsLastPassing (buckets_in self.now) bucket (F.post test)) }
-        ensures none { IfNone result (AllFailFrom (buckets_in self.now) bucket (F.post test) 0) }
+    pub fn find<T: Test>(&self, bucket: usize, test: &T) -> Option<usize>
+        ensures found { IfSome result (IsLastPassing (buckets_in self.now) bucket (AnswersBy (T.Test.answers test.now))) }
+        ensures none { IfNone result (AllFailFrom (buckets_in self.now) bucket (AnswersBy (T.Test.answers test.now)) 0) }
     {
         let mut at = self.last(bucket);
         while let Some(entry) = at {
-            if test(entry) {
+            if test.passes(entry) {
                 return at;
             }
             at = self.before(entry);

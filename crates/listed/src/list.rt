@@ -5,14 +5,15 @@ ghost use Rattle.terms.specs.LookUp.{look_up, length_found};
 ghost use Rattle.stores.specs.Items.{item_at, items_of};
 ghost use Rattle.stores.specs.Sentences.{map_of, is_pair, sentence};
 ghost use Rattle.stores.specs.Refusals.{fits, refusal, answer, kept_after};
-ghost use Rattle.kept.specs.Held.{limits_of, smaller, passes};
+ghost use Rattle.std.specs.List.{slice_get};
+ghost use Rattle.kept.specs.Held.{kept_in, limits_of, smaller, passes, of_pair};
 ghost use Rattle.kept.specs.Firsts.{first_by};
 ghost use Rattle.listed.specs.Hash.{mix, hash_of_lem, bucket};
 ghost use Rattle.kept.specs.Contents.{with_sentences};
 ghost use Rattle.listed.specs.Held.{held_in, room_in, contents_in};
 
 use super::Listed;
-use chains::Chains;
+use chains::{Chains, Test};
 use kept::{Kept, Room};
 use std::alloc::{AllocError, Global};
 use stores::Refusal;
@@ -30,6 +31,22 @@ fn hash_of(node: Node, left: &[Atom]) -> u32
     ensures { result ≡ hash_of_lem node left.now }
 {
     left.iter().fold(mixed_with(0, node.0), |hash, atom| mixed_with(hash, atom.0))
+}
+
+/// Whether an entry is the sentence of a pair.
+#[derive(Drop)]
+struct IsOfPair<'a> {
+    kept: &'a Kept,
+    node: Node,
+    left: &'a [Atom],
+}
+
+impl Test for IsOfPair<'_> {
+    ghost answers = { λ s k. of_pair (slice_get (kept_in s.kept.now) k) s.node s.left.now };
+
+    fn passes(&self, entry: usize) -> bool {
+        self.kept.is_at(entry, self.node, self.left)
+    }
 }
 
 impl Listed {
@@ -60,10 +77,12 @@ impl Listed {
         requires { hash ≡ hash_of_lem node left.now }
         ensures { result ≡ first_by (is_pair node left.now) (held_in self.now) }
     {
-        self.chains.find(
-            self.bucket_of(hash),
-            |number| self.kept.is_at(number, node, left),
-        )
+        let test = IsOfPair {
+            kept: &self.kept,
+            node,
+            left,
+        };
+        self.chains.find(self.bucket_of(hash), &test)
     }
 
     // A new length where a pair has a sentence, else the one so far.

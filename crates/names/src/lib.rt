@@ -8,7 +8,7 @@ ghost use Rattle.names.specs.Held.{names_in, limit_of};
 ghost use Rattle.names.specs.Distinct.{distinct};
 ghost use Rattle.names.specs.Hash.{mix, bucket_of_lem};
 
-use chains::Chains;
+use chains::{Chains, Test};
 use part::Part;
 use std::alloc::{AllocError, Global};
 use terms::limits::NAME_BYTES;
@@ -42,6 +42,21 @@ fn bucket_of(name: &[u8]) -> usize
         hash = mixed_with(hash, *b);
     }
     hash
+}
+
+/// Whether an entry has a name.
+#[derive(Drop)]
+struct HasName<'a> {
+    table: &'a NameTable,
+    name: &'a [u8],
+}
+
+impl Test for HasName<'_> {
+    ghost answers = { λ s k. is_at (names_in s.table.now) k s.name.now };
+
+    fn passes(&self, entry: usize) -> bool {
+        self.table.is_name(entry, self.name)
+    }
 }
 
 impl NameTable {
@@ -102,8 +117,9 @@ impl NameTable {
     pub fn number(&self, name: &[u8]) -> usize
         ensures { result ≡ number (names_in self.now) name.now }
     {
+        let test = HasName { table: self, name };
         self.chains
-            .find(bucket_of(name), |k| self.is_name(k, name))
+            .find(bucket_of(name), &test)
             .unwrap_or(self.len())
     }
 

@@ -1,5 +1,5 @@
 -- Places of a tree: 0 is the top, and i + 1 is where edge i leads. An edge has the place it comes from and a label.
-use Rattle.std.specs.Prelude.{ℕ, suc, ◌+◌, ◌-◌, ◌*◌, ◌/◌, ◌%◌, ◌<◌, ◌≤◌, Bool, cond, ◌&&◌, List, ◌∷◌, map, length, get_or, Some, None, Option, ◌==◌, slice_index_or}
+use Rattle.std.specs.Prelude.{ℕ, suc, ◌+◌, ◌-◌, ◌*◌, ◌/◌, ◌%◌, ◌<◌, ◌≤◌, Bool, false, cond, ◌&&◌, List, ◌∷◌, map, length, get_or, Some, None, Option, ◌==◌, slice_index_or}
 use Rattle.std.specs.List.{fold}
 use Rattle.terms.specs.declared.items.Node.{Node}
 use Rattle.terms.specs.declared.items.Atom.{Atom}
@@ -21,6 +21,11 @@ edge p a = record { parent = p; label = a }
 
 abbrev pub is_edge : ℕ → ℕ → Edge → Bool
 is_edge p a e = p == e.parent && a == e.label
+
+-- whether an edge is there and is this one
+abbrev pub is_the_edge : Edge → Option Edge → Bool
+is_the_edge x None = false
+is_the_edge x (Some e) = is_edge x.parent x.label e
 
 -- the bucket of an edge: the upper 13 bits of a hash of 31
 abbrev pub bucket : ℕ → ℕ → ℕ

@@ -1,11 +1,12 @@
 // Walking down the tree, and marking the place of a node and a left path.
-ghost use Rattle.std.specs.Prelude.{◌≡◌, ℕ, ◌+◌, ◌-◌, ◌<◌, ◌≤◌, List, [], ◌∷◌, ◌++◌, map, length, IfOk, OnOk, OnErr, Ok, Err, Some, None, ◌≢◌, if◌then◌else◌, nat_lt, slice_index_or, slice_set};
-ghost use Rattle.trie.specs.Ways.{bucket_of_lem, child_of, go, mark_at_lem, is_edge, blank, num, word_of};
+ghost use Rattle.std.specs.Prelude.{◌≡◌, ℕ, ◌+◌, ◌-◌, ◌<◌, ◌≤◌, List, [], ◌∷◌, ◌++◌, map, length, IfOk, OnOk, OnErr, Ok, Err, Some, None, ◌≢◌, if◌then◌else◌, nat_lt, slice_set};
+ghost use Rattle.std.specs.List.{slice_get};
+ghost use Rattle.trie.specs.Ways.{bucket_of_lem, child_of, go, mark_at_lem, is_the_edge, num, word_of};
 ghost use Rattle.trie.specs.declared.InsertError.{InsertError};
 ghost use Rattle.trie.specs.Held.{edges_in, marks_in, room_in, place_in, mark_in, Grows};
 
 use super::{Edge, InsertError, Place, Trie};
-use chains::Chains;
+use chains::{Chains, Test};
 use std::alloc::{AllocError, Global};
 use terms::{Atom, Node};
 
@@ -15,6 +16,24 @@ fn bucket_of(edge: Edge) -> usize
 {
     ((((edge.parent % 32768) * 65536 + edge.label as usize) * 2_654_435_769) % 2_147_483_648)
         / 262_144
+}
+
+/// Whether an entry is an edge.
+#[derive(Drop)]
+struct IsEdge<'a> {
+    trie: &'a Trie,
+    edge: Edge,
+}
+
+impl Test for IsEdge<'_> {
+    ghost answers = { λ s k. is_the_edge s.edge (slice_get (edges_in s.trie.now) k) };
+
+    fn passes(&self, entry: usize) -> bool {
+        match self.trie.places.get(entry) {
+            Some(place) => self.edge == place.edge,
+            None => false,
+        }
+    }
 }
 
 impl Trie {
@@ -40,20 +59,12 @@ impl Trie {
         self.chains.clear();
     }
 
-    fn is_edge_at(&self, i: usize, edge: Edge) -> bool
-        requires { i < length (edges_in self.now) }
-        ensures { result ≡ is_edge edge.parent edge.label (slice_index_or (edges_in self.now) i blank) }
-    {
-        edge == self.places[i].edge
-    }
-
     // The place to which an edge leads.
     fn child(&self, edge: Edge) -> Option<usize>
         ensures { result ≡ child_of (edges_in self.now) edge.parent edge.label }
     {
-        let last = self
-            .chains
-            .find(bucket_of(edge), |i| self.is_edge_at(i, edge))?;
+        let test = IsEdge { trie: self, edge };
+        let last = self.chains.find(bucket_of(edge), &test)?;
         Some(last + 1)
     }
 

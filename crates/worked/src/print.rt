@@ -3,6 +3,7 @@ use crate::theory;
 use engine::Stop;
 use evaluator::{Evaluator, Outcome, Refusal};
 use stores::Store;
+use terms::limits::VALUE_ATOMS;
 use terms::{Atom, Node};
 
 fn name_of(names: &[&'static str], number: u16) -> &'static str {
@@ -37,19 +38,25 @@ fn word(outcome: Outcome) -> &'static str {
 /// The outcome, the atoms of a value, and the steps.
 pub(crate) fn outcome<S: Store>(rt: &HostRuntime, evaluator: &Evaluator<S>) -> anyhow::Result<()> {
     print!(rt; "{}", word(evaluator.outcome()))?;
-    for a in evaluator.value() {
-        print!(rt; " {}", name_of(theory::ATOMS, a.0))?;
+    // Kept: a value is asked for place by place, which is the call that shows it to a device.
+    for place in 0..VALUE_ATOMS {
+        let Some(atom) = evaluator.atom(place) else {
+            break;
+        };
+        print!(rt; " {}", name_of(theory::ATOMS, atom.0))?;
     }
     println!(rt; " [{}]", evaluator.steps())?;
     Ok(())
 }
 
-/// The outcome, how many atoms a value has, and the steps.
+/// The outcome, how many atoms a value has, and the steps. Places past the longest value are asked too, for none.
 pub(crate) fn count<S: Store>(rt: &HostRuntime, evaluator: &Evaluator<S>) -> anyhow::Result<()> {
+    let atoms = (0..300)
+        .filter(|place| evaluator.atom(*place).is_some())
+        .count();
     println!(rt;
-        "{} {} [{}]",
+        "{} {atoms} [{}]",
         word(evaluator.outcome()),
-        evaluator.value().len(),
         evaluator.steps()
     )?;
     Ok(())

@@ -182,6 +182,11 @@ begun M m q e p = record {
   count = refl;
 }
 
+-- the atoms that are shown in a phase
+pub value_in : (o : Option Kept) (p x : Phase) (v : List Atom) (q : Kept) → o ≡ Some q → x ≡ p
+    → value_of (shown_in (Some q) x v) ≡ value_of (shown_in o p v)
+value_in o p x v q e f = sym (ap (λ l. value_of (shown_in l p v)) e ∙ ap (λ y. value_of (shown_in (Some q) y v)) (sym f))
+
 -- the atom at a place is the value's
 pub atom_in_value : (out : Option Shown) (k : ℕ) → atom_at (value_of out) k ≡ atom_of out k
 atom_in_value None k = refl

@@ -1,5 +1,5 @@
 -- The atoms of a path, counted, joined and compared.
-use Rattle.std.proofs.Common.{◌≡◌, ℕ, ◌+◌, ◌-◌, ◌<◌, ◌≤◌, eqb, List, [], ◌∷◌, ◌++◌, length, take, drop, sym, refl, ap, ◌∙◌, append_assoc, arith, length-append, length-drop}
+use Rattle.std.proofs.Common.{◌≡◌, ℕ, ◌+◌, ◌-◌, ◌<◌, ◌≤◌, Bool, eqb, List, [], ◌∷◌, ◌++◌, length, take, drop, sym, refl, ap, ◌∙◌, append_assoc, arith, length-append, length-drop}
 use Rattle.std.specs.Prelude.{nat_eq, ◌&&◌}
 use Rattle.std.specs.Ordering.{on}
 use Rattle.std.specs.Cmp.Lexicographic.{pointwise}
@@ -20,6 +20,9 @@ pointwise_same [] [] = refl
 pointwise_same [] (b ∷ y) = refl
 pointwise_same (a ∷ x) [] = refl
 pointwise_same (a ∷ x) (b ∷ y) = ap (λ t. eqb a.0 b.0 && t) (pointwise_same x y)
+
+pub matches_same : (x y : List Atom) (r : Bool) → r ≡ pointwise (on (λ (v : Atom). v.0) nat_eq) x y → r ≡ same_atoms x y
+matches_same x y r m = m ∙ pointwise_same x y
 
 -- a path that is full, and atoms that have no room
 pub filled : (s u more : List Atom) (i : ℕ) → u ≡ s ++ take i more → length u ≡ path_limit → i < length more

@@ -86,10 +86,11 @@ impl Kept {
     pub fn is_at(&self, number: usize, node: Node, left: &[Atom]) -> bool
         ensures { result ≡ of_pair (slice_get (kept_in self.now) number) node left.now }
     {
-        match self.records.get(number) {
-            Some(record) => node == record.node && left == record.left.of(&self.atoms),
-            None => false,
+        if number >= self.records.len() {
+            return false;
         }
+        let record = self.records[number];
+        node == record.node && left == record.left.of(&self.atoms)
     }
 
     // Whether one sentence more, of so many atoms and items, would pass one of the limits.

@@ -24,4 +24,4 @@ returns c =
     let s = c.args.self.now in
     let h = ap (λ (v : Contents). v.sentences) c.put.ensures.keeps in
     let p = added_by_room (limits_of (smaller c.args.most (room_in s))) (held_in s) (sentence c.args.node c.args.left.now c.args.right.now) c.put.result (held_in c.put.new.self) c.in_ok-check_fitness.ensures (sym c.if-has.ensures) c.put.ensures.gives h in
-    record { gives = p.0; keeps = c.put.ensures.keeps ∙ ap (with_sentences s.kept) (sym h ∙ p.1) }
+    record { gives = search rules ∙ p.0; keeps = c.put.ensures.keeps ∙ ap (with_sentences s.kept) (sym h ∙ p.1) }

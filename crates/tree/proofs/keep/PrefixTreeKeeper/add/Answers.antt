@@ -28,4 +28,4 @@ returns c =
     let r = smaller_same c.most.result (room_in s.kept) (c.most.ensures ∙ sym s.room) ∙ s.room in
     let g = c.put.ensures.gives ∙ ap (λ (k : Room). cond (passes k (kept_in s) (length t.left) (length t.right)) (Err refused.Full) (Ok tt)) r in
     let p = added_by_room limits_of (kept_in s) t c.put.result (kept_in c.put.new.self) c.in_ok-check_fitness.ensures (sym c.if-has.ensures) g c.put.ensures.kept in
-    record { gives = p.0; keeps = p.1 }
+    record { gives = search rules ∙ p.0; keeps = p.1 }

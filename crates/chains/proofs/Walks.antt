@@ -5,6 +5,7 @@ use Rattle.std.proofs.lemmas.List.{length-take-le, get_or-take, get_or-map}
 use Rattle.std.proofs.lemmas.Bool.{eqb-true, cond-true, lt-ltb, cases_eq, cases_Bool, eq-eqb}
 use Rattle.std.proofs.str.Laws.{order}
 use Rattle.chains.specs.Last.{or_here, last_by, earlier, up_to}
+use Rattle.chains.specs.Below.{IsIn}
 use Rattle.chains.specs.Found.{AllFailFrom, IsLastPassing}
 use Rattle.chains.proofs.Lasts.{last_within, last_holds}
 
@@ -23,8 +24,7 @@ last_after f (x ∷ xs) d i l w = after_here f x xs d (f x) (last_by f xs) i ref
 
 -- an entry of a bucket, or none
 abbrev pub In : Option ℕ → List ℕ → ℕ → Type 0
-In None bs b = Unit {0}
-In (Some i) bs b = (i < length bs) × (get_or bs i 0 ≡ b)
+In = IsIn
 
 in_last : (bs : List ℕ) (b : ℕ) (o : Option ℕ) → o ≡ last_by (eqb b) bs → In o bs b
 in_last bs b None e = tt

@@ -51,4 +51,5 @@ pub enum PushError {
     Full,
 }
 
+pub mod bucket;
 pub mod links;

@@ -74,13 +74,13 @@ module _ {F : Type 0} (g : Mut F (Bor ℕ × Unit {0}) Bool) (f : F) (answers : 
       (u.0, (w.1, u.1))
 
   module _ (bs : List ℕ) (b : ℕ) where
-    -- it may be called wherever `find` does, if it may be called at each entry
-    pub callable_while : (left : List ℕ) → left ≡ entries_below bs b (length bs) → ((i : ℕ) → i < length bs → TakesAt g f i) → CallableWhileAt (YieldsFirst (λ (l : List ℕ). l)) g false left f
+    -- it may be called wherever `find` calls it, if it may be called at each entry of the bucket
+    pub callable_while : (left : List ℕ) → left ≡ entries_below bs b (length bs) → ((i : ℕ) → i < length bs → get_or bs i 0 ≡ b → TakesAt g f i) → CallableWhileAt (YieldsFirst (λ (l : List ℕ). l)) g false left f
     callable_while left e h = record {
       at = λ xs t q x u ys folds st.
           let w = failed xs f q refl folds in
           let c = came bs b (λ i. answers i false) (length bs) (omega arith) xs (x ∷ u) (sym e ∙ gave left xs t ys ∙ ap (λ l. xs ++ l) st) w.1 in
-          subst (λ k. TakesAt g k x) (sym w.0) (h x c.0.0);
+          subst (λ k. TakesAt g k x) (sym w.0) (h x c.0.0 c.0.1);
     }
 
     pub last_found : (left u : List ℕ) (r : Option ℕ) → left ≡ entries_below bs b (length bs) → FindsItem (YieldsFirst (λ (l : List ℕ). l)) g left f r u → IfSome r (IsLastPassing bs b answers) × IfNone r (AllFailFrom bs b answers 0)

@@ -5,7 +5,7 @@ use Rattle.chain_cases.proofs.find.Goals as goal
 
 pub find-requires-clause-callable : goal.find-requires-clause-callable
 find-requires-clause-callable g c =
-    callable_while _ _ (λ i v. g.F.Fn.post c.args.test (i, tt) v) (λ i v h k. search rules) (buckets_in c.args.chains.now) c.args.bucket _ c.bucket.ensures (λ i l y e. c.requires y.now (omega arith))
+    callable_while _ _ (λ i v. g.F.Fn.post c.args.test (i, tt) v) (λ i v h k. search rules) (buckets_in c.args.chains.now) c.args.bucket _ c.bucket.ensures (λ i l _ y e. c.requires y.now (omega arith))
 
 pub returns-clause-found : goal.returns-clause-found
 returns-clause-found g c =

@@ -1,4 +1,4 @@
--- Going back along a chain: which entries come, and what is found among them.
+-- Going back along a chain: which entries come.
 use Rattle.std.proofs.Common.{◌≡◌, ℕ, zero, suc, ◌<◌, ◌≤◌, true, false, eqb, List, ◌∷◌, length, get_or, Some, None, Option, sym, refl, ap, ◌∙◌, subst, ⊎_elim, arith}
 use Rattle.std.proofs.lemmas.Bool.{eqb-true, cond-true, cond-false, cases_eq, cases_Bool, eq-eqb}
 use Rattle.chains.specs.Last.{last_by, earlier, up_to}
@@ -36,6 +36,7 @@ module _ (bs : List ℕ) (b : ℕ) where
         w.0.inside,
       )
 
+  -- what is left begins with the entry that stands next, and goes on with those before it
   pub next_left : (left : List ℕ) (at o : Option ℕ) (i : ℕ) → entries_below bs b (up_to at) ≡ left → IsIn at bs b → at ≡ Some i → o ≡ earlier bs i → (left ≡ i ∷ entries_below bs b (up_to o)) × IsIn o bs b
   next_left left at o i v h s e =
       let w = entry_left i o (subst (λ a. IsIn a bs b) s h) e in (sym v ∙ ap (λ a. entries_below bs b (up_to a)) s ∙ w.0, w.1)

@@ -1,5 +1,5 @@
 -- What `find` finds among the entries of a bucket: the last that passes the test.
-use Rattle.std.proofs.Common.{◌≡◌, ℕ, zero, suc, ◌<◌, ◌≤◌, Bool, true, false, eqb, List, [], ◌∷◌, ◌++◌, length, get_or, Some, None, Option, IfSome, IfNone, sym, refl, ap, ◌∙◌, subst, ⊎_elim, arith, Bor}
+use Rattle.std.proofs.Common.{◌≡◌, ℕ, zero, suc, ◌<◌, ◌≤◌, Bool, true, false, eqb, List, [], ◌∷◌, ◌++◌, length, get_or, drop, Some, None, Option, IfSome, IfNone, sym, refl, ap, ◌∙◌, subst, ⊎_elim, arith, Bor}
 use Rattle.std.proofs.lemmas.Bool.{eqb-true, cond-true, cond-false, cases_eq, cases_Bool, eq-eqb}
 use denote.Param.Members.{Mut}
 use Rattle.std.specs.Fn.{CalledAt, TakesAt}
@@ -19,10 +19,6 @@ first (x ∷ xs) = Some x
 
 head_is : (x y : ℕ) (xs ys : List ℕ) → x ∷ xs ≡ y ∷ ys → x ≡ y
 head_is x y xs ys e = ap (λ (l : List ℕ). get_or l 0 0) e
-
-abbrev tail_of : List ℕ → List ℕ
-tail_of [] = []
-tail_of (x ∷ xs) = xs
 
 module _ (bs : List ℕ) (b : ℕ) (P : ℕ → Type 0) where
   -- the next to come is an entry of the bucket, if there is one, and P holds of those of the bucket behind it, below n
@@ -45,7 +41,7 @@ module _ (bs : List ℕ) (b : ℕ) (P : ℕ → Type 0) where
   one_more m ih l t [] (x ∷ u) e h =
       let k = head_is m x _ u e in
       (subst (λ i. IsIn (Some i) bs b) k (l, t), λ j p q c. absurd (omega arith))
-  one_more m ih l t (y ∷ ys) rest e h = more m rest (ih ys rest (ap tail_of e) h.1) (λ c. subst P (sym (head_is m y _ _ e)) h.0)
+  one_more m ih l t (y ∷ ys) rest e h = more m rest (ih ys rest (ap (drop 1) e) h.1) (λ c. subst P (sym (head_is m y _ _ e)) h.0)
 
   -- where P holds of those that came, it holds of all behind the one that comes next
   came : (n : ℕ) → n ≤ length bs → (xs rest : List ℕ) → entries_below bs b n ≡ xs ++ rest → Each P xs → Came n rest
@@ -83,6 +79,7 @@ module _ {F : Type 0} (g : Mut F (Bor ℕ × Unit {0}) Bool) (f : F) (answers : 
           subst (λ k. TakesAt g k x) (sym w.0) (h x c.0.0 c.0.1);
     }
 
+    -- what it finds is the last entry of the bucket that passes, and it finds none where each fails
     pub last_found : (left u : List ℕ) (r : Option ℕ) → left ≡ entries_below bs b (length bs) → FindsItem (YieldsFirst (λ (l : List ℕ). l)) g left f r u → IfSome r (IsLastPassing bs b answers) × IfNone r (AllFailFrom bs b answers 0)
     last_found left u None e h =
         let w = failed h.0 f h.1 refl h.3 in

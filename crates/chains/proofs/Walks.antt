@@ -22,7 +22,7 @@ last_after : {X : Type 0} (f : X → Bool) (xs : List X) (d : X) (i : ℕ) → u
 last_after f [] d i l w = absurd (omega arith)
 last_after f (x ∷ xs) d i l w = after_here f x xs d (f x) (last_by f xs) i refl (λ j a b. last_after f xs d j a b) l w
 
--- an entry of a bucket, or none
+-- another name of `IsIn`
 abbrev pub In : Option ℕ → List ℕ → ℕ → Type 0
 In = IsIn
 
